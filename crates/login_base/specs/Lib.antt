@@ -1,0 +1,4 @@
+pub mod IdText
+pub mod InMemory
+pub mod Names
+pub mod Outside
