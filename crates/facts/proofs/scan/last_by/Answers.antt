@@ -1,0 +1,10 @@
+use Rattle.std.proofs.Common.{sym, ap, arith, ◌∙◌}
+use Rattle.std.proofs.lemmas.List.{take_all}
+use Rattle.facts.specs.Places.{last_of}
+use Rattle.facts.proofs.PlacesLemmas.{last_of-more}
+use Rattle.facts.proofs.scan.last_by.Goals as goal
+
+pub loop-i-preserved : goal.loop-i-preserved
+loop-i-preserved g c =
+    let more = last_of-more (g.P.Pick.pick c.args.pick.now) c.args.chronicle.now.list c.loop-i.i c.at.result.now c.at.ensures.fact in
+    rw (c.newer-found.ensures, c.of.ensures.value, c.loop-i.invariant) (sym more)

@@ -1,0 +1,10 @@
+use Rattle.std.proofs.Common.{◌≡◌, List, ℕ, ◌++◌, ap, ◌∙◌}
+use Rattle.std.specs.Prelude.{codes}
+use Rattle.facts.specs.Words.{action_words}
+use Rattle.facts.proofs.TextLemmas.{two_texts}
+use Rattle.facts.proofs.write.add_action.Goals as goal
+
+pub returns : goal.returns
+returns c =
+    let first = rw (c.id_text.ensures.text, c.action_words.ensures) at c.in_ok-add_fields.ensures in
+    two_texts _ _ _ _ _ first c.in_ok-add_shown.ensures

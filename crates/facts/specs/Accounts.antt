@@ -1,0 +1,16 @@
+-- The accounts.
+use Rattle.std.specs.Prelude.{ℕ, List, Option, Some, None, if◌then◌else◌}
+use Rattle.std.specs.Str.{bytes_eq}
+use Rattle.login_base.specs.declared.id.UserId.{UserId}
+use Rattle.facts.specs.declared.fact.Fact.{Fact}
+use Rattle.facts.specs.declared.fact.Fact.TheVariants as facts
+use Rattle.facts.specs.Places.{last_of}
+
+-- the user whom a fact puts under this name
+abbrev pub put_as : List ℕ → Fact → Option UserId
+put_as name (facts.UserPut user other roles) = if bytes_eq other name then Some user else None
+put_as name fact = None
+
+-- the account of this name
+unfoldable pub account_named : List ℕ → List Fact → Option UserId
+account_named name facts = last_of (put_as name) facts

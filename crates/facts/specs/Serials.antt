@@ -1,0 +1,29 @@
+-- The two counters of serials: that of tabs numbers roots, tabs and codes, and the stored one
+-- users, secrets, sessions and tokens.
+use Rattle.std.specs.Prelude.{ℕ, max, List, fold}
+use Rattle.facts.specs.declared.fact.Fact.{Fact}
+use Rattle.facts.specs.declared.fact.Fact.TheVariants as facts
+
+-- the greatest serial of the tab counter after one more fact: a mark puts its own in its place
+abbrev pub tab_serial_after : ℕ → Fact → ℕ
+tab_serial_after n (facts.Opened root tab version level life moment) = max (max n root.0.serial) tab.0.serial
+tab_serial_after n (facts.Rendered tab code action offer) = max n code.0.serial
+tab_serial_after n (facts.Mark tabs stored used kept) = tabs
+tab_serial_after n fact = n
+
+-- the last used serial of the tab counter
+unfoldable pub last_tab_serial : List Fact → ℕ
+last_tab_serial facts = fold tab_serial_after 0 facts
+
+-- the greatest serial of the stored counter after one more fact
+abbrev pub stored_serial_after : ℕ → Fact → ℕ
+stored_serial_after n (facts.UserPut user name roles) = max n user.0
+stored_serial_after n (facts.SecretSet user kind serial secret by) = max n serial
+stored_serial_after n (facts.TokenMade key user kind expiry) = max n key.0.serial
+stored_serial_after n (facts.Session session root user moment idle life) = max n session.0.serial
+stored_serial_after n (facts.Mark tabs stored used kept) = stored
+stored_serial_after n fact = n
+
+-- the last used serial of the stored counter
+unfoldable pub last_stored_serial : List Fact → ℕ
+last_stored_serial facts = fold stored_serial_after 0 facts

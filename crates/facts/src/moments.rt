@@ -1,0 +1,35 @@
+ghost use Rattle.std.specs.Prelude.{◌≡◌};
+ghost use Rattle.facts.specs.Moments.{last_used_moment};
+
+use crate::chronicle::Chronicle;
+use crate::fact::Fact;
+use crate::scan::{Pick, last_by};
+use login_base::Steps;
+use std::sync::ledger::Ledger;
+
+/// Picks the used moment of a mark.
+#[derive(Clone, Copy, Debug)]
+struct UsedMoment;
+
+impl Pick for UsedMoment {
+    ghost use Rattle.facts.specs.Moments.{used_by};
+
+    type Out = u64;
+
+    ghost pick = { λ _. used_by };
+
+    fn of(&self, fact: &Fact) -> Option<u64> {
+        match fact {
+            Fact::Mark { used_moment, .. } => Some(*used_moment),
+            _ => None,
+        }
+    }
+}
+
+/// The used moment of the last mark, 0 where there is none.
+#[tactic(auto, unfolding(crate::specs::Moments::last_used_moment))]
+pub fn last_used_moment<L: Ledger>(chronicle: &Chronicle, steps: &mut Steps<L>) -> u64
+    ensures value { result ≡ last_used_moment chronicle.now.list }
+{
+    last_by(chronicle, &UsedMoment, steps).unwrap_or(0)
+}

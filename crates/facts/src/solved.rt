@@ -1,0 +1,115 @@
+ghost use Rattle.std.specs.Prelude.{◌≡◌, Some, None, IsTrue, if◌then◌else◌};
+ghost use Rattle.facts.specs.Passwords.{password_use, password_text, is_iterations, is_finding_of, is_empty, is_solved};
+
+use crate::admin::AdminVerb;
+use crate::ask::{Ask, Form};
+use crate::finding::{Finding, PasswordUse};
+use std::marker::Model;
+
+/// The most iterations of a password's hash.
+const MOST_ITERATIONS: u32 = 2_000_000;
+
+/// An ask with its password gone, and what the check of that password found.
+#[derive(Debug, Drop)]
+pub struct Solved {
+    ask: Ask,
+    finding: Finding,
+}
+
+impl Model for Solved {
+    ghost use Rattle.std.specs.Prelude.{IsTrue};
+    ghost use Rattle.facts.specs.Passwords.{is_solved};
+    ghost use Rattle.facts.specs.Solved.{SolvedAsk};
+
+    ghost Value = { SolvedAsk };
+
+    ghost view = { λ s. record { ask = s.ask; finding = s.finding } };
+
+    ghost invariant = { λ s. IsTrue (is_solved s.ask s.finding) };
+}
+
+/// What an ask does with its password.
+pub fn password_use(ask: &Ask) -> PasswordUse
+    ensures value { result ≡ password_use ask.now }
+{
+    match ask {
+        Ask::Post { form, .. } => match form {
+            Form::Password { .. } | Form::NamePassword { .. } => PasswordUse::Checks,
+            Form::UpdatePassword { .. } => PasswordUse::Sets,
+            _ => PasswordUse::NoPassword,
+        },
+        Ask::Reset { .. } => PasswordUse::Sets,
+        Ask::Admin { verb, .. } => match verb {
+            AdminVerb::SetPassword { .. } => PasswordUse::Sets,
+            AdminVerb::UserAdd {
+                password: Some(_),
+                ..
+            } => PasswordUse::Sets,
+            _ => PasswordUse::NoPassword,
+        },
+        _ => PasswordUse::NoPassword,
+    }
+}
+
+fn has_empty_password(ask: &Ask) -> bool
+    ensures { result ≡ is_empty (password_text ask.now) }
+{
+    match ask {
+        Ask::Post { form, .. } => match form {
+            Form::Password { password, .. }
+            | Form::NamePassword { password, .. }
+            | Form::UpdatePassword { password } => password.is_empty(),
+            _ => true,
+        },
+        Ask::Reset { password, .. } => password.is_empty(),
+        Ask::Admin { verb, .. } => match verb {
+            AdminVerb::SetPassword { password, .. } => password.is_empty(),
+            AdminVerb::UserAdd {
+                password: Some(password),
+                ..
+            } => password.is_empty(),
+            _ => true,
+        },
+        _ => true,
+    }
+}
+
+fn is_finding_of(usage: PasswordUse, finding: &Finding) -> bool
+    ensures { result ≡ is_finding_of usage finding.now }
+{
+    match (usage, finding) {
+        (PasswordUse::NoPassword, Finding::None) => true,
+        (PasswordUse::Checks, Finding::Checked { .. }) => true,
+        (PasswordUse::Sets, Finding::Derived { iterations, .. }) => {
+            1 <= *iterations && *iterations <= MOST_ITERATIONS
+        }
+        _ => false,
+    }
+}
+
+impl Solved {
+    /// An ask and a finding that belong together: the ask's password is empty, and the finding is
+    /// `None` for an ask without a password, `Checked` for one that checks it, and `Derived` with
+    /// 1 to 2,000,000 iterations for one that sets it. Else none.
+    pub fn of_journal(ask: Ask, finding: Finding) -> Option<Solved>
+        ensures value { result ≡ (if is_solved ask finding then Some (record { ask = ask; finding = finding }) else None) }
+    {
+        if has_empty_password(&ask) && is_finding_of(password_use(&ask), &finding) {
+            Some(Solved { ask, finding })
+        } else {
+            None
+        }
+    }
+
+    pub fn ask(&self) -> &Ask
+        ensures ask { result.now ≡ self.now.ask }
+    {
+        &self.ask
+    }
+
+    pub fn finding(&self) -> &Finding
+        ensures finding { result.now ≡ self.now.finding }
+    {
+        &self.finding
+    }
+}
