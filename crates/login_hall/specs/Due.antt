@@ -1,0 +1,25 @@
+-- What an ask is due over a chronicle: the one right reply, and the facts that it adds.
+use Rattle.std.specs.Prelude.{ℕ, List, Option, None}
+use Rattle.login_base.specs.declared.words.Words.{Words}
+use Rattle.facts.specs.declared.admin.AdminVerb.TheVariants as verbs
+use Rattle.facts.specs.declared.ask.Ask.{Ask}
+use Rattle.facts.specs.declared.ask.Ask.TheVariants as asks
+use Rattle.facts.specs.declared.fact.Fact.{Fact}
+use Rattle.facts.specs.declared.reply.What.TheVariants as whats
+use Rattle.facts.specs.Solved.{SolvedAsk}
+use Rattle.login_hall.specs.declared.answer.Answer.{Answer}
+use Rattle.login_hall.specs.declared.refusal.Refusal.TheVariants.{NotBuilt}
+use Rattle.login_hall.specs.NewTab.{due_new_tab}
+use Rattle.login_hall.specs.Plain.{only}
+use Rattle.login_hall.specs.Refusals.{refused}
+use Rattle.login_hall.specs.UserAdd.{due_user_add}
+
+-- by cases on the ask; an ask that isn't built yet is malformed at its verb
+abbrev pub due_ask : List Fact → Ask → ℕ → Words → Answer
+due_ask chronicle (asks.Bad at) moment words = only (whats.BadForm at)
+due_ask chronicle (asks.NewTab None client None) moment words = due_new_tab chronicle moment words
+due_ask chronicle (asks.Admin access (verbs.UserAdd name None otp roles actions)) moment words = due_user_add chronicle name otp roles actions
+due_ask chronicle ask moment words = refused NotBuilt
+
+abbrev pub due : List Fact → SolvedAsk → ℕ → Words → Answer
+due chronicle solved moment words = due_ask chronicle solved.ask moment words

@@ -1,0 +1,13 @@
+//! The core of the login service: the one reply that an ask is due over all that happened before,
+//! and the hall, which keeps a legal history of asks. It knows no text, clock, randomness, thread
+//! or store: moments and random words are handed in.
+#![tactic(auto)]
+
+mod answer;
+mod bad;
+mod due;
+mod ids;
+mod new_tab;
+mod refusal;
+mod user_add;
+

@@ -1,0 +1,76 @@
+ghost use Rattle.std.specs.Prelude.{◌≡◌, ◌≤◌, ◌+◌, ◌^◌, [], ◌∷◌, IfOk};
+ghost use Rattle.facts.specs.Serials.{last_tab_serial};
+ghost use Rattle.login_hall.specs.NewTab.{due_new_tab, form_need};
+
+use crate::answer::Answer;
+use crate::ids::{code_at, root_key, tab_key};
+use facts::{Chronicle, Fact, Kind, Need, Reply, What, last_tab_serial};
+use login_base::{Memory, Name, Sequence, Steps, Words};
+use std::alloc::Global;
+use std::sync::ledger::Ledger;
+
+/// The version of the built-in realm.
+const BUILTIN_VERSION: u64 = 1;
+
+/// The life of the built-in realm's tabs, in milliseconds.
+const TAB_LIFE: u64 = 1_800_000;
+
+/// The one execution of the built-in realm.
+pub(crate) fn form_need(alloc: Global) -> Result<Need, Memory>
+    ensures { IfOk result (λ need. need ≡ form_need) }
+{
+    Ok(Need {
+        id: Name::known(alloc, b"form")?,
+        kind: Kind::Form,
+        number: 0,
+    })
+}
+
+/// What the built-in realm's form asks.
+pub(crate) fn form_asked(alloc: Global) -> Result<Sequence<Need>, Memory>
+    ensures { IfOk result (λ asked. asked ≡ form_need ∷ []) }
+{
+    let mut asked = Sequence::new(alloc);
+    asked.push(form_need(alloc)?)?;
+    Ok(asked)
+}
+
+/// What an open is due.
+#[tactic(auto, unfolding(crate::specs::NewTab::due_new_tab))]
+pub(crate) fn due_new_tab<L: Ledger>(
+    alloc: Global,
+    chronicle: &Chronicle,
+    moment: u64,
+    words: &Words,
+    steps: &mut Steps<L>,
+) -> Result<Answer, Memory>
+    requires { last_tab_serial chronicle.now.list ≤ 2 ^ 63 }
+    ensures { IfOk result (λ answer. answer ≡ due_new_tab chronicle.now.list moment words.now) }
+{
+    let serial = last_tab_serial(chronicle, steps);
+    let root = root_key(serial + 1, words);
+    let tab = tab_key(serial + 2, words);
+    let code = code_at(serial + 3, words);
+    let asked = form_asked(alloc)?;
+    let mut added = Sequence::new(alloc);
+    added.push(Fact::Opened {
+        root,
+        tab,
+        version: BUILTIN_VERSION,
+        level: 0,
+        life: TAB_LIFE,
+        moment,
+    })?;
+    added.push(Fact::Rendered {
+        tab,
+        code,
+        action: None,
+        offer: [0; 32],
+    })?;
+    let reply = Reply {
+        tab: Some(tab),
+        opened: Some(root),
+        what: What::Form { code, asked },
+    };
+    Ok(Answer { reply, added })
+}
