@@ -1,6 +1,7 @@
 use crate::action::Action;
 use crate::kind::Kind;
 use crate::secret::{Secret, SecretKind};
+use lockout::Standing;
 use login_base::{
     Code, Duplicate, Memory, Name, RootKey, Sequence, SessionId, TabKey, TokenKey, UserId,
 };
@@ -123,6 +124,11 @@ pub enum Fact {
         kind: Kind,
         credential: u64,
         moment: u64,
+    },
+    /// An opening value: what the user's failures have come to.
+    Standing {
+        user: UserId,
+        standing: Standing,
     },
     /// An opening value: the last serials of both counters, and the last moments used and stored.
     Mark {
@@ -272,6 +278,10 @@ impl Duplicate for Fact {
                 kind: *kind,
                 credential: *credential,
                 moment: *moment,
+            },
+            Fact::Standing { user, standing } => Fact::Standing {
+                user: *user,
+                standing: *standing,
             },
             Fact::Mark {
                 tab_serial,
