@@ -1,2 +1,3 @@
+pub mod PasswordLemmas
 pub mod PlacesLemmas
 pub mod TextLemmas

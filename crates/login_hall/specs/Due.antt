@@ -1,5 +1,5 @@
 -- What an ask is due over a chronicle: the one right reply, and the facts that it adds.
-use Rattle.std.specs.Prelude.{ℕ, List, Option, None}
+use Rattle.std.specs.Prelude.{ℕ, List, None}
 use Rattle.login_base.specs.declared.words.Words.{Words}
 use Rattle.facts.specs.declared.admin.AdminVerb.TheVariants as verbs
 use Rattle.facts.specs.declared.ask.Ask.{Ask}

@@ -1,5 +1,8 @@
 pub mod Due
+pub mod Growth
+pub mod HallState
 pub mod Ids
+pub mod Legal
 pub mod NewTab
 pub mod Plain
 pub mod Refusals

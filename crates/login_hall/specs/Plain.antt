@@ -1,5 +1,5 @@
 -- Replies that name no tab.
-use Rattle.std.specs.Prelude.{[], Option, None}
+use Rattle.std.specs.Prelude.{[], None}
 use Rattle.facts.specs.declared.reply.Reply.{Reply}
 use Rattle.facts.specs.declared.reply.What.{What}
 use Rattle.login_hall.specs.declared.answer.Answer.{Answer}

@@ -33,14 +33,13 @@ pub(crate) fn due<L: Ledger>(
             ..
         } => due_new_tab(alloc, chronicle, moment, words, steps),
         Ask::Admin {
-            verb:
-                AdminVerb::UserAdd {
-                    name,
-                    password: None,
-                    otp,
-                    roles,
-                    actions,
-                },
+            verb: AdminVerb::UserAdd {
+                name,
+                password: None,
+                otp,
+                roles,
+                actions,
+            },
             ..
         } => due_user_add(alloc, chronicle, name, otp, roles, actions, steps),
         _ => refused(alloc, Refusal::NotBuilt),

@@ -6,8 +6,12 @@
 mod answer;
 mod bad;
 mod due;
+mod hall;
 mod ids;
 mod new_tab;
+mod proposal;
 mod refusal;
 mod user_add;
 
+pub use hall::{Begun, Hall};
+pub use proposal::Proposal;

@@ -5,9 +5,7 @@ ghost use Rattle.login_hall.specs.UserAdd.{without_setup, name_free, new_user, u
 use crate::answer::Answer;
 use crate::bad::{plain, refused};
 use crate::refusal::Refusal;
-use facts::{
-    Action, Chronicle, Fact, OtpSecret, What, account_named, last_stored_serial,
-};
+use facts::{Action, Chronicle, Fact, OtpSecret, What, account_named, last_stored_serial};
 use login_base::{Duplicate, Memory, Name, Sequence, Steps, UserId};
 use std::alloc::Global;
 use std::sync::ledger::Ledger;

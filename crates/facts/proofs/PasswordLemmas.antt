@@ -1,0 +1,40 @@
+-- An ask that does nothing with a password has none.
+use Rattle.std.proofs.Common.{◌≡◌, ℕ, true, List, [], Some, None, refl}
+use Rattle.std.specs.Prelude.{Option}
+use Rattle.facts.specs.declared.admin.AdminVerb.TheVariants as verbs
+use Rattle.facts.specs.declared.ask.Ask.{Ask}
+use Rattle.facts.specs.declared.ask.Ask.TheVariants as asks
+use Rattle.facts.specs.declared.ask.Form.TheVariants as forms
+use Rattle.facts.specs.declared.finding.Finding.TheVariants as findings
+use Rattle.facts.specs.declared.finding.PasswordUse.TheVariants.{NoPassword}
+use Rattle.facts.specs.Passwords.{password_use, is_solved}
+
+pub plain_is_solved : (ask : Ask) → password_use ask ≡ NoPassword → is_solved ask findings.None ≡ true
+plain_is_solved (asks.Bad at) h = refl
+plain_is_solved (asks.NewTab root client acr) h = refl
+plain_is_solved (asks.Page root tab) h = refl
+plain_is_solved (asks.Post root tab code (forms.Username execution name)) h = refl
+plain_is_solved (asks.Post root tab code (forms.Password execution password)) h = absurd cc
+plain_is_solved (asks.Post root tab code (forms.NamePassword execution name password)) h = absurd cc
+plain_is_solved (asks.Post root tab code (forms.Value execution value)) h = refl
+plain_is_solved (asks.Post root tab code forms.Terms) h = refl
+plain_is_solved (asks.Post root tab code (forms.UpdatePassword password)) h = absurd cc
+plain_is_solved (asks.Post root tab code (forms.ConfigureOtp value)) h = refl
+plain_is_solved (asks.Post root tab code forms.RecoveryCodes) h = refl
+plain_is_solved (asks.Post root tab code forms.VerifyEmail) h = refl
+plain_is_solved (asks.Verify key) h = refl
+plain_is_solved (asks.Reset key password) h = absurd cc
+plain_is_solved (asks.Logout root) h = refl
+plain_is_solved (asks.Admin access (verbs.UserAdd name (Some password) otp roles actions)) h = absurd cc
+plain_is_solved (asks.Admin access (verbs.UserAdd name None otp roles actions)) h = refl
+plain_is_solved (asks.Admin access (verbs.Roles name roles)) h = refl
+plain_is_solved (asks.Admin access (verbs.SetPassword name password)) h = absurd cc
+plain_is_solved (asks.Admin access (verbs.OtpSet name secret)) h = refl
+plain_is_solved (asks.Admin access (verbs.OtpRemove name)) h = refl
+plain_is_solved (asks.Admin access (verbs.Require name action)) h = refl
+plain_is_solved (asks.Admin access (verbs.Enable name)) h = refl
+plain_is_solved (asks.Admin access (verbs.Disable name)) h = refl
+plain_is_solved (asks.Admin access (verbs.Unlock name)) h = refl
+plain_is_solved (asks.Admin access (verbs.Token name action life)) h = refl
+plain_is_solved (asks.Admin access (verbs.Revoke session)) h = refl
+plain_is_solved (asks.Admin access verbs.Sweep) h = refl

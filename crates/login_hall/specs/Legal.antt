@@ -1,0 +1,45 @@
+-- Legal histories: each entry is the one that was due.
+use Rattle.std.specs.Prelude.{◌≡◌, ℕ, ◌+◌, ◌^◌, ◌<◌, ◌≤◌, List, [], ◌∷◌, ◌++◌}
+use Rattle.login_base.specs.declared.words.Words.{Words}
+use Rattle.facts.specs.declared.entry.Entry.{Entry}
+use Rattle.facts.specs.declared.fact.Fact.{Fact}
+use Rattle.facts.specs.Serials.{last_tab_serial, last_stored_serial}
+use Rattle.facts.specs.Solved.{SolvedAsk}
+use Rattle.login_hall.specs.Due.{due}
+use Rattle.login_hall.specs.Growth.{chronicle_of, last_moment, next_moment}
+
+-- the entry may come next: its moment isn't earlier, and its reply and facts are the due ones
+pub record Follows (base : List Fact) (journal : List Entry) (entry : Entry) : Type 0 where
+  pub later : last_moment base journal ≤ entry.moment
+  pub small : entry.moment < 2 ^ 53
+  pub reply : entry.reply ≡ (due (chronicle_of base journal) entry.solved entry.moment entry.words).reply
+  pub added : entry.added ≡ (due (chronicle_of base journal) entry.solved entry.moment entry.words).added
+
+-- each entry follows those before it
+unfoldable pub LegalAfter : List Fact → List Entry → List Entry → Type 0
+LegalAfter base front [] = Unit {0}
+LegalAfter base front (entry ∷ journal) = Follows base front entry × LegalAfter base (front ++ entry ∷ []) journal
+
+abbrev pub IsLegal : List Fact → List Entry → Type 0
+IsLegal base journal = LegalAfter base [] journal
+
+-- the entry of an ask at a moment over a chronicle
+abbrev pub entry_at : List Fact → ℕ → ℕ → Words → SolvedAsk → Entry
+entry_at chronicle caller moment words solved =
+    record {
+      caller = caller;
+      moment = moment;
+      words = words;
+      solved = solved;
+      reply = (due chronicle solved moment words).reply;
+      added = (due chronicle solved moment words).added;
+    }
+
+-- the entry that an ask is due after a journal
+abbrev pub entry_due : List Fact → List Entry → ℕ → ℕ → Words → SolvedAsk → Entry
+entry_due base journal caller moment words solved = entry_at (chronicle_of base journal) caller (next_moment base journal moment) words solved
+
+-- an ask raises each counter by 4 at most
+pub record Raises (old new : List Fact) : Type 0 where
+  pub tabs : last_tab_serial new ≤ last_tab_serial old + 4
+  pub stored : last_stored_serial new ≤ last_stored_serial old + 4

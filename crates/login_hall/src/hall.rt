@@ -1,0 +1,205 @@
+ghost use Rattle.std.specs.Prelude.{◌≡◌, ◌<◌, ◌≤◌, ◌+◌, ◌-◌, ◌^◌, [], ◌∷◌, ◌++◌, OnOk, IfOk, vec_len, vec_capacity};
+ghost use Rattle.facts.specs.declared.fact.Fact.TheVariants.{Mark};
+ghost use Rattle.facts.specs.declared.finding.Finding.TheVariants as findings;
+ghost use Rattle.facts.specs.declared.finding.PasswordUse.TheVariants.{NoPassword};
+ghost use Rattle.facts.specs.Passwords.{password_use};
+ghost use Rattle.facts.specs.Serials.{last_tab_serial, last_stored_serial};
+ghost use Rattle.login_hall.specs.HallState.{facts_of, IsUnchanged};
+ghost use Rattle.login_hall.specs.Legal.{Follows, entry_at, entry_due, Raises};
+
+use crate::answer::Answer;
+use crate::due::due;
+use crate::proposal::Proposal;
+use facts::{Ask, Chronicle, Entry, Fact, Finding, Reply, Solved};
+use login_base::{Duplicate, Memory, Steps, Words, discard, put};
+use std::alloc::Global;
+use std::marker::Model;
+use std::sync::ledger::Ledger;
+
+/// The last moment that there is, in milliseconds.
+const LAST_MOMENT: u64 = (1 << 53) - 1;
+
+/// A base of facts, and a journal of the asks over it that is legal: each entry is the one that
+/// was due.
+#[derive(Drop)]
+pub struct Hall {
+    alloc: Global,
+    facts: Chronicle,
+    /// So many facts are the base's.
+    based: usize,
+    journal: Vec<Entry>,
+    /// The last used moment.
+    last: u64,
+}
+
+impl Model for Hall {
+    ghost use Rattle.std.specs.Prelude.{◌-◌, take, vec_len, vec_capacity};
+    ghost use Rattle.login_hall.specs.HallState.{HallState, IsSound};
+
+    ghost Value = { HallState };
+
+    ghost view = { λ h. record { base = take h.based h.facts.list; journal = h.journal.items; waiting = h.facts.waiting; room = vec_capacity h.journal - vec_len h.journal } };
+
+    ghost invariant = { λ h. IsSound h.facts.list h.based h.journal.items h.last };
+}
+
+/// What the beginning of an ask comes to.
+#[derive(Debug, Drop)]
+pub enum Begun {
+    /// The ask has no password: nothing is to be found.
+    Ready(Solved),
+}
+
+/// The proposal of an answer.
+fn proposal_of(
+    alloc: Global,
+    caller: u32,
+    moment: u64,
+    words: Words,
+    solved: Solved,
+    answer: Answer,
+) -> Result<Proposal, Memory>
+    ensures { IfOk result (λ p. p ≡ record { caller = caller; moment = moment; words = words; solved = solved; reply = answer.reply; added = answer.added }) }
+{
+    match answer.reply.duplicate(alloc) {
+        Ok(reply) => {
+            let Answer { reply: due, added } = answer;
+            let entry = Entry {
+                caller,
+                moment,
+                words,
+                solved,
+                reply: due,
+                added,
+            };
+            Ok(Proposal { entry, reply })
+        }
+        Err(memory) => {
+            discard(answer);
+            discard(solved);
+            Err(memory)
+        }
+    }
+}
+
+/// The proposal of an ask at a moment.
+#[tactic(auto, using(crate::proofs::SerialLemmas::raises))]
+fn proposal_at<L: Ledger>(
+    alloc: Global,
+    facts: &Chronicle,
+    caller: u32,
+    moment: u64,
+    words: Words,
+    solved: Solved,
+    steps: &mut Steps<L>,
+) -> Result<Proposal, Memory>
+    requires tabs { last_tab_serial facts.now.list ≤ 2 ^ 63 }
+    requires stored { last_stored_serial facts.now.list ≤ 2 ^ 63 }
+    ensures entry { IfOk result (λ p. p ≡ entry_at facts.now.list caller moment words solved) }
+    ensures raises { IfOk result (λ p. Raises facts.now.list (facts.now.list ++ p.added)) }
+{
+    match due(alloc, facts, &solved, moment, &words, steps) {
+        Ok(answer) => proposal_of(alloc, caller, moment, words, solved, answer),
+        Err(memory) => {
+            discard(solved);
+            Err(memory)
+        }
+    }
+}
+
+/// Makes room for an entry and its facts.
+fn make_room(facts: &mut Chronicle, journal: &mut Vec<Entry>, added: &[Fact]) -> Result<(), Memory>
+    ensures list { facts.new.list ≡ facts.old.list }
+    ensures waiting { OnOk result (facts.new.waiting ≡ added.now) }
+    ensures journal { journal.new.items ≡ journal.old.items }
+    ensures len { vec_len journal.new ≡ vec_len journal.old }
+    ensures room { OnOk result (vec_len journal.new < vec_capacity journal.new) }
+{
+    journal.reserve(1)?;
+    facts.reserve(added)?;
+    Ok(())
+}
+
+impl Hall {
+    /// A hall whose base is one mark of zeros, with an empty journal.
+    pub fn make(alloc: Global) -> Result<Hall, Memory>
+        ensures base { IfOk result (λ hall. hall.base ≡ Mark 0 0 0 0 ∷ []) }
+        ensures journal { IfOk result (λ hall. hall.journal ≡ []) }
+    {
+        let mark = Fact::Mark {
+            tab_serial: 0,
+            stored_serial: 0,
+            used_moment: 0,
+            stored_moment: 0,
+        };
+        let mut facts = Chronicle::make(alloc);
+        facts.reserve(&[mark])?;
+        facts.add();
+        Ok(Hall {
+            alloc,
+            facts,
+            based: 1,
+            journal: Vec::new(alloc),
+            last: 0,
+        })
+    }
+
+    /// Begins an ask. It decides nothing, and takes no memory.
+    pub fn begin(&self, ask: Ask, _words: &Words) -> Begun
+        requires plain { password_use ask ≡ NoPassword }
+        ensures ready { result ≡ Begun.Ready (record { ask = ask; finding = findings.None }) }
+    {
+        match Solved::of_journal(ask, Finding::None) {
+            Some(solved) => Begun::Ready(solved),
+            None => unreachable!(),
+        }
+    }
+
+    /// The entry that an ask is due, for which all memory is taken here. It counts a step for each
+    /// fact that it reads.
+    pub fn propose<L: Ledger>(
+        &mut self,
+        caller: u32,
+        moment: u64,
+        words: Words,
+        solved: Solved,
+        steps: &mut Steps<L>,
+    ) -> Result<Proposal, Memory>
+        requires tabs { last_tab_serial (facts_of self.old) ≤ 2 ^ 63 - 8 }
+        requires stored { last_stored_serial (facts_of self.old) ≤ 2 ^ 63 - 8 }
+        ensures entry { IfOk result (λ p. p ≡ entry_due self.old.base self.old.journal caller moment words solved) }
+        ensures follows { IfOk result (λ p. Follows self.new.base self.new.journal p) }
+        ensures waiting { IfOk result (λ p. self.new.waiting ≡ p.added) }
+        ensures room { OnOk result (0 < self.new.room) }
+        ensures raises { IfOk result (λ p. Raises (facts_of self.old) (facts_of self.old ++ p.added)) }
+        ensures same { IsUnchanged self.old self.new }
+    {
+        let now = self.last.max(moment.min(LAST_MOMENT));
+        let proposal = proposal_at(self.alloc, &self.facts, caller, now, words, solved, steps)?;
+        let added = proposal.entry.added.as_slice();
+        match make_room(&mut self.facts, &mut self.journal, added) {
+            Ok(()) => Ok(proposal),
+            Err(memory) => {
+                discard(proposal);
+                Err(memory)
+            }
+        }
+    }
+
+    /// Adds the entry that was proposed last, and answers its reply. It takes no memory.
+    pub fn adopt(&mut self, proposal: Proposal) -> Reply
+        requires follows { Follows self.old.base self.old.journal proposal }
+        requires waiting { self.old.waiting ≡ proposal.added }
+        requires room { 0 < self.old.room }
+        ensures reply { result ≡ proposal.reply }
+        ensures base { self.new.base ≡ self.old.base }
+        ensures journal { self.new.journal ≡ self.old.journal ++ proposal ∷ [] }
+        ensures facts { facts_of self.new ≡ facts_of self.old ++ proposal.added }
+    {
+        let Proposal { entry, reply } = proposal;
+        self.last = entry.moment;
+        self.facts.add();
+        put(&mut self.journal, entry);
+        reply
+    }
+}
