@@ -1,5 +1,5 @@
 -- The text of an id.
-use Rattle.std.specs.Prelude.{ℕ, zero, suc, ◌+◌, ◌-◌, ◌*◌, ◌/◌, ◌%◌, ◌^◌, ◌<◌, ◌&&◌, nat_lt, nat_le, List, [], ◌∷◌, ◌++◌, Option, Some, None, if◌then◌else◌, nat_eq, length, slice_index, take, drop}
+use Rattle.std.specs.Prelude.{ℕ, Bool, ◌==◌, zero, suc, ◌+◌, ◌-◌, ◌*◌, ◌/◌, ◌%◌, ◌^◌, ◌<◌, ◌&&◌, nat_lt, nat_le, List, [], ◌∷◌, ◌++◌, Option, Some, None, if◌then◌else◌, nat_eq, length, slice_index, take, drop}
 use Rattle.login_base.specs.declared.id.Id.{Id}
 
 -- `0` to `9`, then `a` to `f`
@@ -43,6 +43,10 @@ id_of text =
       low ← hex_value_from 0 (take 16 (drop 33 text))
       Some (record { serial = serial; high = high; low = low }))
     else None
+
+-- both ids have the same serial and words
+abbrev pub same_id : Id → Id → Bool
+same_id a b = a.serial == b.serial && a.high == b.high && a.low == b.low
 
 -- what a program's id is
 pub record IsId (i : Id) : Type 0 where

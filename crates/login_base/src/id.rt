@@ -1,5 +1,5 @@
 ghost use Rattle.std.specs.Prelude.{◌≡◌, ◌<◌, ◌≤◌, ◌+◌, ◌++◌, length, take, drop, Some, IfSome};
-ghost use Rattle.login_base.specs.IdText.{hex_text, hex_digit, hex_value_from, digit_value, id_bytes, id_of, IsId};
+ghost use Rattle.login_base.specs.IdText.{hex_text, hex_digit, hex_value_from, digit_value, id_bytes, id_of, same_id, IsId};
 
 /// A serial number, which makes ids distinct, and two random words, which make them hard to guess.
 #[derive(Clone, Copy, Debug, PartialEq, Eq)]
@@ -32,6 +32,13 @@ pub struct TokenKey(pub Id);
 /// Names an account by its serial number.
 #[derive(Clone, Copy, Debug, PartialEq, Eq)]
 pub struct UserId(pub u64);
+
+/// Whether both ids have the same serial and words.
+pub fn same_id(first: &Id, second: &Id) -> bool
+    ensures value { result ≡ same_id first.now second.now }
+{
+    first.serial == second.serial && first.high == second.high && first.low == second.low
+}
 
 fn digit(d: u8) -> u8
     requires { d < 16 }

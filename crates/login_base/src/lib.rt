@@ -14,11 +14,13 @@ mod sequence;
 mod sink;
 mod source;
 mod steps;
+#[cfg(test)]
+mod tests;
 mod words;
 
 pub use argv::Argv;
 pub use duplicate::Duplicate;
-pub use id::{Code, Id, RootKey, SessionId, TabKey, TokenKey, UserId, id_text, read_id};
+pub use id::{Code, Id, RootKey, SessionId, TabKey, TokenKey, UserId, id_text, read_id, same_id};
 pub use memory::Memory;
 pub use name::{Name, read_name};
 pub use room::{discard, put};

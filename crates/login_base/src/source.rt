@@ -1,4 +1,4 @@
-ghost use Rattle.std.specs.Prelude.{◌≡◌, ◌≤◌, ℕ, List, length, Option, Some, IsTrue, Contains, vec_len, drop};
+ghost use Rattle.std.specs.Prelude.{◌≡◌, ◌≤◌, ◌↔◌, ℕ, List, [], length, Option, Some, IsTrue, Contains};
 ghost use Rattle.login_base.specs.Outside.{Rose, ReadTakes, IsAtEnd, is_end, ends_after, counted};
 
 use std::marker::Model;
@@ -88,7 +88,16 @@ impl Source for MemSource {
 
     ghost ends = { λ s. s.ends };
 
-    fn read(&mut self, buffer: &mut [u8]) -> Read {
+    fn read(&mut self, buffer: &mut [u8]) -> Read
+        ensures bytes { ReadTakes (Some self.old.left) (Some self.new.left) result buffer.new }
+        ensures end { IsTrue (is_end result (length buffer.old)) → self.new.left ≡ [] }
+        ensures ends { self.new.ends ≡ ends_after result (length buffer.old) self.old.ends }
+        ensures faults { self.old.faults ≤ self.new.faults }
+        ensures cause { result ≡ Read.Failed → Rose self.old.faults self.new.faults }
+        ensures fails { (result ≡ Read.Failed) ↔ Contains self.old.failing (counted self.old.calls) }
+        ensures calls { self.new.calls ≡ counted self.old.calls }
+        ensures failing { self.new.failing ≡ self.old.failing }
+    {
         self.calls = self.calls.saturating_add(1);
         if self.failing.contains(&self.calls) {
             self.faults = self.faults.saturating_add(1);
