@@ -1,8 +1,12 @@
 pub mod Accounts
 pub mod Kept
 pub mod Moments
+pub mod Padding
+pub mod PasswordHash
 pub mod Passwords
 pub mod Places
+pub mod Ranges
+pub mod Secrets
 pub mod Serials
 pub mod Solved
 pub mod Words

@@ -29,6 +29,16 @@ password_text (asks.Admin access (verbs.SetPassword name password)) = password
 password_text (asks.Admin access (verbs.UserAdd name (Some password) otp roles actions)) = password
 password_text ask = []
 
+-- the ask with its password gone
+abbrev pub emptied : Ask → Ask
+emptied (asks.Post root tab code (forms.Password execution password)) = asks.Post root tab code (forms.Password execution [])
+emptied (asks.Post root tab code (forms.NamePassword execution name password)) = asks.Post root tab code (forms.NamePassword execution name [])
+emptied (asks.Post root tab code (forms.UpdatePassword password)) = asks.Post root tab code (forms.UpdatePassword [])
+emptied (asks.Reset key password) = asks.Reset key []
+emptied (asks.Admin access (verbs.SetPassword name password)) = asks.Admin access (verbs.SetPassword name [])
+emptied (asks.Admin access (verbs.UserAdd name (Some password) otp roles actions)) = asks.Admin access (verbs.UserAdd name (Some []) otp roles actions)
+emptied ask = ask
+
 -- how often a password may be hashed
 abbrev pub is_iterations : ℕ → Bool
 is_iterations n = nat_le 1 n && nat_le n 2000000

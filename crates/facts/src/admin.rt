@@ -1,22 +1,82 @@
-ghost use Rattle.std.specs.Prelude.{◌≡◌, ◌≤◌, ◌&&◌, nat_le, length, if◌then◌else◌, Some, None};
+ghost use Rattle.std.specs.Prelude.{◌≡◌, Some, None, if◌then◌else◌};
+ghost use Rattle.facts.specs.Ranges.{is_otp_key, is_life};
 
 use crate::action::Action;
 use login_base::{Name, Sequence, SessionId};
+use std::marker::Model;
 
-/// The key of a TOTP generator: 10 to 64 bytes.
+/// The key of a TOTP generator (RFC 6238): 10 to 64 bytes.
 #[derive(Debug, Drop)]
 pub struct OtpSecret {
-    pub key: Sequence<u8>,
-    ghost least: { 10 ≤ length key },
-    ghost most: { length key ≤ 64 },
+    key: Sequence<u8>,
+}
+
+impl Model for OtpSecret {
+    ghost use Rattle.std.specs.Prelude.{ℕ, List, IsTrue};
+    ghost use Rattle.facts.specs.Ranges.{is_otp_key};
+
+    ghost Value = { List ℕ };
+
+    ghost view = { λ s. s.key };
+
+    ghost invariant = { λ s. IsTrue (is_otp_key s.key) };
+}
+
+impl OtpSecret {
+    /// The secret of a key, or none where its length is out of the range.
+    pub fn new(key: Sequence<u8>) -> Option<OtpSecret>
+        ensures value { result ≡ (if is_otp_key key then Some key else None) }
+    {
+        if key.len() >= 10 && key.len() <= 64 {
+            Some(OtpSecret { key })
+        } else {
+            None
+        }
+    }
+
+    pub fn key(&self) -> &[u8]
+        ensures key { result.now ≡ self.now }
+    {
+        self.key.as_slice()
+    }
 }
 
 /// How long a token lives: 1 to 31,536,000 seconds.
 #[derive(Clone, Copy, Debug, PartialEq, Eq)]
 pub struct Life {
-    pub seconds: u64,
-    ghost least: { 1 ≤ seconds },
-    ghost most: { seconds ≤ 31536000 },
+    seconds: u64,
+}
+
+impl Model for Life {
+    ghost use Rattle.std.specs.Prelude.{ℕ, IsTrue};
+    ghost use Rattle.facts.specs.Ranges.{is_life};
+
+    ghost Value = { ℕ };
+
+    ghost view = { λ l. l.seconds };
+
+    ghost invariant = { λ l. IsTrue (is_life l.seconds) };
+
+    ghost inverse = { λ n. record { seconds = n } };
+}
+
+impl Life {
+    /// The life of so many seconds, or none where that is out of the range.
+    pub fn new(seconds: u64) -> Option<Life>
+        ensures value { result ≡ (if is_life seconds then Some seconds else None) }
+    {
+        if seconds >= 1 && seconds <= 31_536_000 {
+            Some(Life { seconds })
+        } else {
+            None
+        }
+    }
+
+    pub fn seconds(&self) -> u64
+        ensures seconds { result ≡ self.now }
+    {
+        self.seconds
+    }
 }
 
 /// What a token can be for.

@@ -1,3 +1,4 @@
+use crate::password_hash::PasswordHash;
 use login_base::{Duplicate, Memory, Sequence};
 use std::alloc::Global;
 
@@ -12,20 +13,11 @@ pub enum SecretKind {
 /// A secret as it is kept.
 #[derive(Debug, Drop)]
 pub enum Secret {
-    /// PBKDF2 with HMAC-SHA-256 (RFC 8018, section 5.2), 32 bytes long.
-    Password {
-        salt: Sequence<u8>,
-        iterations: u32,
-        digest: [u8; 32],
-    },
+    Password { hash: PasswordHash },
     /// The key of a TOTP generator (RFC 6238).
-    Otp {
-        key: Sequence<u8>,
-    },
+    Otp { key: Sequence<u8> },
     /// SHA-256 of each numbered recovery code.
-    Recovery {
-        digests: Sequence<[u8; 32]>,
-    },
+    Recovery { digests: Sequence<[u8; 32]> },
     /// The secret was taken away.
     Gone,
 }
@@ -33,15 +25,7 @@ pub enum Secret {
 impl Duplicate for Secret {
     fn duplicate(&self, alloc: Global) -> Result<Secret, Memory> {
         Ok(match self {
-            Secret::Password {
-                salt,
-                iterations,
-                digest,
-            } => Secret::Password {
-                salt: salt.duplicate(alloc)?,
-                iterations: *iterations,
-                digest: *digest,
-            },
+            Secret::Password { hash } => Secret::Password { hash: *hash },
             Secret::Otp { key } => Secret::Otp {
                 key: key.duplicate(alloc)?,
             },

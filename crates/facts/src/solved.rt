@@ -1,10 +1,13 @@
 ghost use Rattle.std.specs.Prelude.{◌≡◌, Some, None, IsTrue, if◌then◌else◌};
-ghost use Rattle.facts.specs.Passwords.{password_use, password_text, is_iterations, is_finding_of, is_empty, is_solved};
+ghost use Rattle.facts.specs.Passwords.{password_use, password_text, is_iterations, is_finding_of, is_empty, is_solved, emptied};
 
 use crate::admin::AdminVerb;
 use crate::ask::{Ask, Form};
 use crate::finding::{Finding, PasswordUse};
+use login_base::Sequence;
+use std::alloc::Global;
 use std::marker::Model;
+use std::mem;
 
 /// The most iterations of a password's hash.
 const MOST_ITERATIONS: u32 = 2_000_000;
@@ -48,6 +51,32 @@ pub fn password_use(ask: &Ask) -> PasswordUse
             _ => PasswordUse::NoPassword,
         },
         _ => PasswordUse::NoPassword,
+    }
+}
+
+/// Takes the password out of an ask, empty where the ask has none. It takes no memory.
+pub fn take_password(alloc: Global, ask: &mut Ask) -> Sequence<u8>
+    ensures ask { ask.new ≡ emptied ask.old }
+    ensures password { result ≡ password_text ask.old }
+{
+    let nothing = Sequence::new(alloc);
+    match ask {
+        Ask::Post { form, .. } => match form {
+            Form::Password { password, .. } => mem::replace(password, nothing),
+            Form::NamePassword { password, .. } => mem::replace(password, nothing),
+            Form::UpdatePassword { password } => mem::replace(password, nothing),
+            _ => nothing,
+        },
+        Ask::Reset { password, .. } => mem::replace(password, nothing),
+        Ask::Admin { verb, .. } => match verb {
+            AdminVerb::SetPassword { password, .. } => mem::replace(password, nothing),
+            AdminVerb::UserAdd {
+                password: Some(password),
+                ..
+            } => mem::replace(password, nothing),
+            _ => nothing,
+        },
+        _ => nothing,
     }
 }
 
@@ -109,6 +138,7 @@ impl Solved {
 
     pub fn finding(&self) -> &Finding
         ensures finding { result.now ≡ self.now.finding }
+        ensures fits { IsTrue (is_finding_of (password_use self.now.ask) result.now) }
     {
         &self.finding
     }

@@ -1,0 +1,92 @@
+ghost use Rattle.std.specs.Prelude.{◌≡◌, ◌≤◌, Some, None, length, if◌then◌else◌};
+ghost use Rattle.facts.specs.Padding.{padded};
+ghost use Rattle.facts.specs.PasswordHash.{is_hash};
+
+use std::marker::Model;
+
+/// The greatest length of a salt, in bytes.
+const MOST_SALT: usize = 64;
+
+/// The most iterations of a password's hash.
+const MOST_ITERATIONS: u32 = 2_000_000;
+
+/// A password as it is kept: PBKDF2 with HMAC-SHA-256 (RFC 8018, section 5.2) of a salt of 1 to 64
+/// bytes, after 1 to 2,000,000 iterations, 32 bytes long.
+#[derive(Clone, Copy, Debug)]
+pub struct PasswordHash {
+    /// The salt, and zeros.
+    salt: [u8; 64],
+    salt_len: usize,
+    iterations: u32,
+    digest: [u8; 32],
+}
+
+impl Model for PasswordHash {
+    ghost use Rattle.std.specs.Prelude.{ℕ, ◌-◌, ◌++◌, List, length, take, replicate};
+    ghost use Rattle.facts.specs.PasswordHash.{HashedPassword, IsHash};
+    ghost use Rattle.facts.specs.Padding.{padded, both, length-padded};
+    ghost use Rattle.std.proofs.Common.{sym};
+
+    ghost Value = { HashedPassword };
+
+    ghost view = { λ h. record { salt = take h.salt_len h.salt; iterations = h.iterations; digest = h.digest } };
+
+    ghost invariant = { λ h. IsHash h.salt h.salt_len h.iterations };
+
+    ghost inverse = { λ v. record { salt = padded v.salt; salt_len = length v.salt; iterations = v.iterations; digest = v.digest } };
+
+    ghost inverse_ok = { λ h ok. both (λ (salt : List ℕ) (len : ℕ). record h { salt = salt; salt_len = len }) (sym ok.padded) (length-padded h.salt h.salt_len ok.most ok.padded) };
+}
+
+/// The text, and zeros.
+fn padded(text: &[u8]) -> [u8; 64]
+    requires { length text.now ≤ 64 }
+    ensures { result ≡ padded text.now }
+{
+    let mut place = [0u8; 64];
+    'bytes: for (i, byte) in text.iter().enumerate() {
+        place[i] = *byte;
+    }
+    place
+}
+
+impl PasswordHash {
+    /// A hash of these parts, or none where the salt or the number of iterations is out of its range.
+    pub fn new(salt: &[u8], iterations: u32, digest: [u8; 32]) -> Option<PasswordHash>
+        ensures value { result ≡ (if is_hash salt.now iterations then Some (record { salt = salt.now; iterations = iterations; digest = digest }) else None) }
+    {
+        if salt.is_empty()
+            || salt.len() > MOST_SALT
+            || iterations == 0
+            || iterations > MOST_ITERATIONS
+        {
+            return None;
+        }
+        Some(PasswordHash {
+            salt: padded(salt),
+            salt_len: salt.len(),
+            iterations,
+            digest,
+        })
+    }
+
+    pub fn salt(&self) -> &[u8]
+        ensures salt { result.now ≡ self.now.salt }
+    {
+        &self.salt[..self.salt_len]
+    }
+
+    /// The number of iterations, at least 1.
+    pub fn iterations(&self) -> u32
+        ensures iterations { result ≡ self.now.iterations }
+        ensures least { 1 ≤ result }
+    {
+        self.iterations
+    }
+
+    pub fn digest(&self) -> &[u8; 32]
+        ensures digest { result.now ≡ self.now.digest }
+    {
+        &self.digest
+    }
+}

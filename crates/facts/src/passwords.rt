@@ -1,0 +1,71 @@
+ghost use Rattle.std.specs.Prelude.{◌≡◌};
+ghost use Rattle.facts.specs.Secrets.{kept_password, password_of};
+
+use crate::chronicle::Chronicle;
+use crate::fact::Fact;
+use crate::password_hash::PasswordHash;
+use crate::scan::{Pick, last_by};
+use crate::secret::{Secret, SecretKind};
+use login_base::{Steps, UserId};
+use std::sync::ledger::Ledger;
+
+/// The password that a user has, with the serial that it was set with.
+#[derive(Clone, Copy, Debug)]
+pub struct UserPassword {
+    pub serial: u64,
+    pub hash: PasswordHash,
+}
+
+/// Picks what a change of a user's password leaves.
+#[derive(Clone, Copy, Debug)]
+struct PasswordSet {
+    user: UserId,
+}
+
+fn kept_password(serial: u64, secret: &Secret) -> Option<UserPassword>
+    ensures { result ≡ kept_password serial secret.now }
+{
+    match secret {
+        Secret::Password { hash } => Some(UserPassword {
+            serial,
+            hash: *hash,
+        }),
+        _ => None,
+    }
+}
+
+impl Pick for PasswordSet {
+    ghost use Rattle.facts.specs.Secrets.{password_set};
+
+    type Out = Option<UserPassword>;
+
+    ghost pick = { λ p. password_set p.user };
+
+    fn of(&self, fact: &Fact) -> Option<Option<UserPassword>> {
+        match fact {
+            Fact::SecretSet {
+                user,
+                kind: SecretKind::Password,
+                serial,
+                secret,
+                ..
+            } if user.0 == self.user.0 => Some(kept_password(*serial, secret)),
+            _ => None,
+        }
+    }
+}
+
+/// The password that a user has.
+#[tactic(auto, unfolding(crate::specs::Secrets::password_of))]
+pub fn password_of<L: Ledger>(
+    chronicle: &Chronicle,
+    user: UserId,
+    steps: &mut Steps<L>,
+) -> Option<UserPassword>
+    ensures value { result ≡ password_of user chronicle.now.list }
+{
+    match last_by(chronicle, &PasswordSet { user }, steps) {
+        Some(kept) => kept,
+        None => None,
+    }
+}
