@@ -1,22 +1,26 @@
 -- How far an ask raises the counters.
 use Rattle.std.proofs.Common.{◌≡◌, ℕ, ◌+◌, List, [], ◌++◌, refl, sym, ap, arith}
-use Rattle.std.specs.Prelude.{fold, Option, None, Result, Ok, Err}
+use Rattle.std.specs.Prelude.{fold, Option, Result, Ok, Err}
 use Rattle.std.proofs.lemmas.List.{append-nil}
 use Rattle.std.proofs.lemmas.Grind.{fold-append}
+use Rattle.login_base.specs.declared.id.RootKey.{RootKey}
 use Rattle.login_base.specs.declared.id.UserId.{UserId}
 use Rattle.login_base.specs.declared.words.Words.{Words}
 use Rattle.facts.specs.declared.action.Action.{Action}
+use Rattle.facts.specs.declared.admin.AdminVerb.{AdminVerb}
 use Rattle.facts.specs.declared.admin.AdminVerb.TheVariants as verbs
 use Rattle.facts.specs.declared.admin.OtpSecret.{OtpSecret}
 use Rattle.facts.specs.declared.ask.Ask.{Ask}
 use Rattle.facts.specs.declared.ask.Ask.TheVariants as asks
 use Rattle.facts.specs.declared.fact.Fact.{Fact}
+use Rattle.facts.specs.declared.finding.Finding.{Finding}
+use Rattle.facts.specs.declared.finding.Finding.TheVariants as findings
 use Rattle.facts.specs.Serials.{last_tab_serial, tab_serial_after, last_stored_serial, stored_serial_after}
 use Rattle.login_hall.specs.declared.refusal.Refusal.{Refusal}
 use Rattle.login_hall.specs.declared.refusal.Refusal.TheVariants as refusals
-use Rattle.login_hall.specs.Due.{due_ask}
+use Rattle.login_hall.specs.Due.{due_admin, due_ask}
 use Rattle.login_hall.specs.Legal.{Raises}
-use Rattle.login_hall.specs.NewTab.{due_new_tab}
+use Rattle.login_hall.specs.NewTab.{due_new_tab, new_root, tab_opened}
 use Rattle.login_hall.specs.Refusals.{settled, refused, ◌>>=◌}
 use Rattle.login_hall.specs.UserAdd.{due_user_add, new_user, user_added, without_setup, name_free}
 
@@ -35,18 +39,34 @@ refusal_adds : (old : List Fact) (refusal : Refusal) → Raises old (old ++ (ref
 refusal_adds old refusals.NotBuilt = nothing_added old
 refusal_adds old refusals.UserTaken = nothing_added old
 
-new_tab_adds : (old : List Fact) (moment : ℕ) (words : Words) → Raises old (old ++ (due_new_tab old moment words).added)
-unfolding due_new_tab
-new_tab_adds old moment words = record {
-  tabs = let e = last_tab_serial-append old (due_new_tab old moment words).added in omega arith;
-  stored = let e = last_stored_serial-append old (due_new_tab old moment words).added in omega arith;
+tab_adds : (old : List Fact) (moment : ℕ) (words : Words) → Raises old (old ++ (tab_opened old moment words).added)
+unfolding tab_opened
+tab_adds old moment words = record {
+  tabs = let e = last_tab_serial-append old (tab_opened old moment words).added in omega arith;
+  stored = let e = last_stored_serial-append old (tab_opened old moment words).added in omega arith;
 }
 
--- a user whose serial is the next one
-user_adds : (old : List Fact) (name : List ℕ) (roles : List (List ℕ)) (user : UserId) → user.0 ≡ last_stored_serial old + 1 → Raises old (old ++ (user_added name roles user).added)
-user_adds old name roles user next = record {
-  tabs = let e = last_tab_serial-append old (user_added name roles user).added in omega arith;
-  stored = let e = last_stored_serial-append old (user_added name roles user).added in omega arith;
+new_tab_adds : (old : List Fact) (new : Result (Unit {0}) Refusal) (moment : ℕ) (words : Words) → Raises old (old ++ (settled (λ x. tab_opened old moment words) new).added)
+new_tab_adds old (Ok x) moment words = tab_adds old moment words
+new_tab_adds old (Err refusal) moment words = refusal_adds old refusal
+
+due_new_tab_adds : (old : List Fact) (root : Option RootKey) (acr : Option (List ℕ)) (moment : ℕ) (words : Words) → Raises old (old ++ (due_new_tab old root acr moment words).added)
+unfolding due_new_tab
+due_new_tab_adds old root acr moment words = new_tab_adds old (new_root root acr) moment words
+
+-- a user whose serial is the next one, and its password
+user_adds : (old : List Fact) (name : List ℕ) (roles : List (List ℕ)) (finding : Finding) (user : UserId) → user.0 ≡ last_stored_serial old + 1 → Raises old (old ++ (user_added name roles finding user).added)
+user_adds old name roles (findings.Derived salt count digest) user next = record {
+  tabs = let e = last_tab_serial-append old (user_added name roles (findings.Derived salt count digest) user).added in omega arith;
+  stored = let e = last_stored_serial-append old (user_added name roles (findings.Derived salt count digest) user).added in omega arith;
+}
+user_adds old name roles findings.None user next = record {
+  tabs = let e = last_tab_serial-append old (user_added name roles findings.None user).added in omega arith;
+  stored = let e = last_stored_serial-append old (user_added name roles findings.None user).added in omega arith;
+}
+user_adds old name roles (findings.Checked had fits) user next = record {
+  tabs = let e = last_tab_serial-append old (user_added name roles (findings.Checked had fits) user).added in omega arith;
+  stored = let e = last_stored_serial-append old (user_added name roles (findings.Checked had fits) user).added in omega arith;
 }
 
 -- where nothing refuses, the user is the next one
@@ -55,19 +75,23 @@ next_user (Ok x) (Ok y) serial user h = let e : ◌≡◌ {A = UserId} (record {
 next_user (Ok x) (Err refusal) serial user h = absurd cc
 next_user (Err refusal) free serial user h = absurd cc
 
-user_add_adds : (old : List Fact) (name : List ℕ) (otp : Option OtpSecret) (roles : List (List ℕ)) (actions : List Action) (new : Result UserId Refusal) → new_user old name otp actions ≡ new
-    → Raises old (old ++ (settled (user_added name roles) new).added)
+user_add_adds : (old : List Fact) (name : List ℕ) (otp : Option OtpSecret) (roles : List (List ℕ)) (actions : List Action) (finding : Finding) (new : Result UserId Refusal) → new_user old name otp actions ≡ new
+    → Raises old (old ++ (settled (user_added name roles finding) new).added)
 unfolding new_user
-user_add_adds old name otp roles actions (Ok user) h = user_adds old name roles user (next_user (without_setup otp actions) (name_free old name) (last_stored_serial old + 1) user h)
-user_add_adds old name otp roles actions (Err refusal) h = refusal_adds old refusal
+user_add_adds old name otp roles actions finding (Ok user) h = user_adds old name roles finding user (next_user (without_setup otp actions) (name_free old name) (last_stored_serial old + 1) user h)
+user_add_adds old name otp roles actions finding (Err refusal) h = refusal_adds old refusal
 
-due_user_add_adds : (old : List Fact) (name : List ℕ) (otp : Option OtpSecret) (roles : List (List ℕ)) (actions : List Action) → Raises old (old ++ (due_user_add old name otp roles actions).added)
+due_user_add_adds : (old : List Fact) (name : List ℕ) (otp : Option OtpSecret) (roles : List (List ℕ)) (actions : List Action) (finding : Finding) → Raises old (old ++ (due_user_add old name otp roles actions finding).added)
 unfolding due_user_add
-due_user_add_adds old name otp roles actions = user_add_adds old name otp roles actions (new_user old name otp actions) refl
+due_user_add_adds old name otp roles actions finding = user_add_adds old name otp roles actions finding (new_user old name otp actions) refl
+
+admin_adds : (old : List Fact) (verb : AdminVerb) (finding : Finding) → Raises old (old ++ (due_admin old verb finding).added)
+admin_adds old (verbs.UserAdd name password otp roles actions) finding = due_user_add_adds old name otp roles actions finding
+admin_adds old verb finding = nothing_added old
 
 -- an ask raises each counter by a few at most
-pub raises : (old : List Fact) (ask : Ask) (moment : ℕ) (words : Words) → Raises old (old ++ (due_ask old ask moment words).added)
-raises old (asks.Bad at) moment words = nothing_added old
-raises old (asks.NewTab None client None) moment words = new_tab_adds old moment words
-raises old (asks.Admin access (verbs.UserAdd name None otp roles actions)) moment words = due_user_add_adds old name otp roles actions
-raises old ask moment words = nothing_added old
+pub raises : (old : List Fact) (ask : Ask) (finding : Finding) (moment : ℕ) (words : Words) → Raises old (old ++ (due_ask old ask finding moment words).added)
+raises old (asks.Bad at) finding moment words = nothing_added old
+raises old (asks.NewTab root client acr) finding moment words = due_new_tab_adds old root acr moment words
+raises old (asks.Admin access verb) finding moment words = admin_adds old verb finding
+raises old ask finding moment words = nothing_added old

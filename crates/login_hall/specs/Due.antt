@@ -1,10 +1,12 @@
 -- What an ask is due over a chronicle: the one right reply, and the facts that it adds.
-use Rattle.std.specs.Prelude.{ℕ, List, None}
+use Rattle.std.specs.Prelude.{ℕ, List}
 use Rattle.login_base.specs.declared.words.Words.{Words}
+use Rattle.facts.specs.declared.admin.AdminVerb.{AdminVerb}
 use Rattle.facts.specs.declared.admin.AdminVerb.TheVariants as verbs
 use Rattle.facts.specs.declared.ask.Ask.{Ask}
 use Rattle.facts.specs.declared.ask.Ask.TheVariants as asks
 use Rattle.facts.specs.declared.fact.Fact.{Fact}
+use Rattle.facts.specs.declared.finding.Finding.{Finding}
 use Rattle.facts.specs.declared.reply.What.TheVariants as whats
 use Rattle.facts.specs.Solved.{SolvedAsk}
 use Rattle.login_hall.specs.declared.answer.Answer.{Answer}
@@ -14,12 +16,17 @@ use Rattle.login_hall.specs.Plain.{only}
 use Rattle.login_hall.specs.Refusals.{refused}
 use Rattle.login_hall.specs.UserAdd.{due_user_add}
 
+-- an administrator's verb
+abbrev pub due_admin : List Fact → AdminVerb → Finding → Answer
+due_admin chronicle (verbs.UserAdd name password otp roles actions) finding = due_user_add chronicle name otp roles actions finding
+due_admin chronicle verb finding = refused NotBuilt
+
 -- by cases on the ask; an ask that isn't built yet is malformed at its verb
-abbrev pub due_ask : List Fact → Ask → ℕ → Words → Answer
-due_ask chronicle (asks.Bad at) moment words = only (whats.BadForm at)
-due_ask chronicle (asks.NewTab None client None) moment words = due_new_tab chronicle moment words
-due_ask chronicle (asks.Admin access (verbs.UserAdd name None otp roles actions)) moment words = due_user_add chronicle name otp roles actions
-due_ask chronicle ask moment words = refused NotBuilt
+abbrev pub due_ask : List Fact → Ask → Finding → ℕ → Words → Answer
+due_ask chronicle (asks.Bad at) finding moment words = only (whats.BadForm at)
+due_ask chronicle (asks.NewTab root client acr) finding moment words = due_new_tab chronicle root acr moment words
+due_ask chronicle (asks.Admin access verb) finding moment words = due_admin chronicle verb finding
+due_ask chronicle ask finding moment words = refused NotBuilt
 
 abbrev pub due : List Fact → SolvedAsk → ℕ → Words → Answer
-due chronicle solved moment words = due_ask chronicle solved.ask moment words
+due chronicle solved moment words = due_ask chronicle solved.ask solved.finding moment words

@@ -1,4 +1,6 @@
+pub mod Begun
 pub mod Due
+pub mod Found
 pub mod Growth
 pub mod HallState
 pub mod Ids

@@ -1,16 +1,18 @@
 ghost use Rattle.std.specs.Prelude.{◌≡◌, ◌<◌, ◌≤◌, ◌+◌, ◌-◌, ◌^◌, [], ◌∷◌, ◌++◌, OnOk, IfOk, vec_len, vec_capacity};
 ghost use Rattle.facts.specs.declared.fact.Fact.TheVariants.{Mark};
-ghost use Rattle.facts.specs.declared.finding.Finding.TheVariants as findings;
-ghost use Rattle.facts.specs.declared.finding.PasswordUse.TheVariants.{NoPassword};
 ghost use Rattle.facts.specs.Passwords.{password_use};
 ghost use Rattle.facts.specs.Serials.{last_tab_serial, last_stored_serial};
+ghost use Rattle.login_hall.specs.Begun.{solution_of, is_work};
+ghost use Rattle.login_hall.specs.Found.{solved_of, has_password};
 ghost use Rattle.login_hall.specs.HallState.{facts_of, IsUnchanged};
 ghost use Rattle.login_hall.specs.Legal.{Follows, entry_at, entry_due, Raises};
 
 use crate::answer::Answer;
+use crate::begun::Begun;
 use crate::due::due;
+use crate::found::begun;
 use crate::proposal::Proposal;
-use facts::{Ask, Chronicle, Entry, Fact, Finding, Reply, Solved};
+use facts::{Ask, Chronicle, Entry, Fact, Reply, Solved};
 use login_base::{Duplicate, Memory, Steps, Words, discard, put};
 use std::alloc::Global;
 use std::marker::Model;
@@ -34,6 +36,8 @@ pub struct Hall {
 
 impl Model for Hall {
     ghost use Rattle.std.specs.Prelude.{◌-◌, take, vec_len, vec_capacity};
+    ghost use Rattle.login_hall.specs.Begun.{solution_of, is_work};
+    ghost use Rattle.login_hall.specs.Found.{solved_of, has_password};
     ghost use Rattle.login_hall.specs.HallState.{HallState, IsSound};
 
     ghost Value = { HallState };
@@ -41,13 +45,6 @@ impl Model for Hall {
     ghost view = { λ h. record { base = take h.based h.facts.list; journal = h.journal.items; waiting = h.facts.waiting; room = vec_capacity h.journal - vec_len h.journal } };
 
     ghost invariant = { λ h. IsSound h.facts.list h.based h.journal.items h.last };
-}
-
-/// What the beginning of an ask comes to.
-#[derive(Debug, Drop)]
-pub enum Begun {
-    /// The ask has no password: nothing is to be found.
-    Ready(Solved),
 }
 
 /// The proposal of an answer.
@@ -144,15 +141,13 @@ impl Hall {
         })
     }
 
-    /// Begins an ask. It decides nothing, and takes no memory.
-    pub fn begin(&self, ask: Ask, _words: &Words) -> Begun
-        requires plain { password_use ask ≡ NoPassword }
-        ensures ready { result ≡ Begun.Ready (record { ask = ask; finding = findings.None }) }
+    /// Begins an ask: looks up what its password is to be checked against, or a salt for it. It
+    /// decides nothing, and takes no memory.
+    pub fn begin(&self, ask: Ask, words: &Words) -> Begun
+        ensures solved { solution_of result ≡ solved_of (facts_of self.now) ask words.now }
+        ensures work { is_work result ≡ has_password (password_use ask) }
     {
-        match Solved::of_journal(ask, Finding::None) {
-            Some(solved) => Begun::Ready(solved),
-            None => unreachable!(),
-        }
+        begun(self.alloc, &self.facts, ask, words)
     }
 
     /// The entry that an ask is due, for which all memory is taken here. It counts a step for each

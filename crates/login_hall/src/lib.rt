@@ -5,13 +5,19 @@
 
 mod answer;
 mod bad;
+mod begun;
 mod due;
+mod found;
 mod hall;
 mod ids;
 mod new_tab;
 mod proposal;
 mod refusal;
+mod task;
 mod user_add;
+mod work;
 
-pub use hall::{Begun, Hall};
+pub use begun::Begun;
+pub use hall::Hall;
 pub use proposal::Proposal;
+pub use work::Work;

@@ -1,11 +1,13 @@
 ghost use Rattle.std.specs.Prelude.{◌≡◌, ◌≤◌, ◌+◌, ◌^◌, [], ◌∷◌, IfOk};
 ghost use Rattle.facts.specs.Serials.{last_tab_serial};
-ghost use Rattle.login_hall.specs.NewTab.{due_new_tab, form_need};
+ghost use Rattle.login_hall.specs.NewTab.{due_new_tab, form_need, new_root, tab_opened};
 
 use crate::answer::Answer;
+use crate::bad::refused;
 use crate::ids::{code_at, root_key, tab_key};
+use crate::refusal::Refusal;
 use facts::{Chronicle, Fact, Kind, Need, Reply, What, last_tab_serial};
-use login_base::{Memory, Name, Sequence, Steps, Words};
+use login_base::{Memory, Name, RootKey, Sequence, Steps, Words};
 use std::alloc::Global;
 use std::sync::ledger::Ledger;
 
@@ -35,9 +37,20 @@ pub(crate) fn form_asked(alloc: Global) -> Result<Sequence<Need>, Memory>
     Ok(asked)
 }
 
-/// What an open is due.
-#[tactic(auto, unfolding(crate::specs::NewTab::due_new_tab))]
-pub(crate) fn due_new_tab<L: Ledger>(
+/// Neither a root nor a level can be asked yet.
+#[tactic(auto, unfolding(crate::specs::NewTab::new_root))]
+fn new_root(root: &Option<RootKey>, acr: &Option<Name>) -> Result<(), Refusal>
+    ensures { result ≡ new_root root.now acr.now }
+{
+    if root.is_some() || acr.is_some() {
+        return Err(Refusal::NotBuilt);
+    }
+    Ok(())
+}
+
+/// A new root and a new tab, whose form is shown.
+#[tactic(auto, unfolding(crate::specs::NewTab::tab_opened))]
+fn tab_opened<L: Ledger>(
     alloc: Global,
     chronicle: &Chronicle,
     moment: u64,
@@ -45,7 +58,7 @@ pub(crate) fn due_new_tab<L: Ledger>(
     steps: &mut Steps<L>,
 ) -> Result<Answer, Memory>
     requires { last_tab_serial chronicle.now.list ≤ 2 ^ 63 }
-    ensures { IfOk result (λ answer. answer ≡ due_new_tab chronicle.now.list moment words.now) }
+    ensures { IfOk result (λ answer. answer ≡ tab_opened chronicle.now.list moment words.now) }
 {
     let serial = last_tab_serial(chronicle, steps);
     let root = root_key(serial + 1, words);
@@ -73,4 +86,24 @@ pub(crate) fn due_new_tab<L: Ledger>(
         what: What::Form { code, asked },
     };
     Ok(Answer { reply, added })
+}
+
+/// What an open is due.
+#[tactic(auto, unfolding(crate::specs::NewTab::due_new_tab))]
+pub(crate) fn due_new_tab<L: Ledger>(
+    alloc: Global,
+    chronicle: &Chronicle,
+    root: &Option<RootKey>,
+    acr: &Option<Name>,
+    moment: u64,
+    words: &Words,
+    steps: &mut Steps<L>,
+) -> Result<Answer, Memory>
+    requires { last_tab_serial chronicle.now.list ≤ 2 ^ 63 }
+    ensures { IfOk result (λ answer. answer ≡ due_new_tab chronicle.now.list root.now acr.now moment words.now) }
+{
+    match new_root(root, acr) {
+        Ok(()) => tab_opened(alloc, chronicle, moment, words, steps),
+        Err(refusal) => refused(alloc, refusal),
+    }
 }

@@ -1,11 +1,15 @@
-ghost use Rattle.std.specs.Prelude.{◌≡◌, ◌≤◌, ◌^◌, IfOk};
+ghost use Rattle.std.specs.Prelude.{◌≡◌, ◌<◌, ◌≤◌, ◌+◌, ◌-◌, ◌^◌, ◌++◌, true, IfOk, OnOk};
+ghost use Rattle.facts.specs.Passwords.{is_iterations};
 ghost use Rattle.facts.specs.Serials.{last_stored_serial};
-ghost use Rattle.login_hall.specs.UserAdd.{without_setup, name_free, new_user, user_text, user_added, due_user_add};
+ghost use Rattle.login_hall.specs.UserAdd.{without_setup, name_free, new_user, user_text, first_password, user_added, due_user_add, IsKeepable};
 
 use crate::answer::Answer;
 use crate::bad::{plain, refused};
 use crate::refusal::Refusal;
-use facts::{Action, Chronicle, Fact, OtpSecret, What, account_named, last_stored_serial};
+use facts::{
+    Action, Chronicle, Fact, Finding, OtpSecret, PasswordHash, Secret, SecretKind, What,
+    account_named, last_stored_serial,
+};
 use login_base::{Duplicate, Memory, Name, Sequence, Steps, UserId};
 use std::alloc::Global;
 use std::sync::ledger::Ledger;
@@ -46,7 +50,8 @@ fn new_user<L: Ledger>(
     steps: &mut Steps<L>,
 ) -> Result<UserId, Refusal>
     requires { last_stored_serial chronicle.now.list ≤ 2 ^ 63 }
-    ensures { result ≡ new_user chronicle.now.list name.now otp.now actions.now }
+    ensures user { result ≡ new_user chronicle.now.list name.now otp.now actions.now }
+    ensures small { IfOk result (λ user. user.0 ≤ 2 ^ 63 + 1) }
 {
     without_setup(otp, actions)?;
     name_free(chronicle, name, steps)?;
@@ -65,14 +70,56 @@ fn user_text(alloc: Global, name: &Name, user: UserId) -> Result<Sequence<u8>, M
     Ok(Sequence::from_vec(text))
 }
 
-/// The account is put.
+/// A derived password as it is kept.
+fn kept(salt: &[u8; 16], iterations: u32, digest: &[u8; 32]) -> PasswordHash
+    requires { is_iterations iterations ≡ true }
+    ensures { result ≡ record { salt = salt.now; iterations = iterations; digest = digest.now } }
+{
+    match PasswordHash::new(salt, iterations, *digest) {
+        Some(hash) => hash,
+        None => unreachable!(),
+    }
+}
+
+/// Adds the setting of a derived password, with the serial after the user's.
+fn add_first_password(
+    added: &mut Sequence<Fact>,
+    user: UserId,
+    finding: &Finding,
+) -> Result<(), Memory>
+    requires keepable { IsKeepable finding.now }
+    requires serial { user.0 < 2 ^ 64 - 1 }
+    ensures { OnOk result (added.new ≡ added.old ++ first_password user finding.now) }
+{
+    match finding {
+        Finding::Derived {
+            salt,
+            iterations,
+            digest,
+        } => added.push(Fact::SecretSet {
+            user,
+            kind: SecretKind::Password,
+            serial: user.0 + 1,
+            secret: Secret::Password {
+                hash: kept(salt, *iterations, digest),
+            },
+            by: None,
+        }),
+        _ => Ok(()),
+    }
+}
+
+/// The account is put, and its password is set where the ask had one.
 fn user_added(
     alloc: Global,
     name: &Name,
     roles: &Sequence<Name>,
+    finding: &Finding,
     user: UserId,
 ) -> Result<Answer, Memory>
-    ensures { IfOk result (λ answer. answer ≡ user_added name.now roles.now user) }
+    requires keepable { IsKeepable finding.now }
+    requires serial { user.0 < 2 ^ 64 - 1 }
+    ensures { IfOk result (λ answer. answer ≡ user_added name.now roles.now finding.now user) }
 {
     let text = user_text(alloc, name, user)?;
     let mut added = Sequence::new(alloc);
@@ -81,6 +128,7 @@ fn user_added(
         name: name.duplicate(alloc)?,
         roles: roles.duplicate(alloc)?,
     })?;
+    add_first_password(&mut added, user, finding)?;
     let reply = plain(What::Told { text });
     Ok(Answer { reply, added })
 }
@@ -94,13 +142,15 @@ pub(crate) fn due_user_add<L: Ledger>(
     otp: &Option<OtpSecret>,
     roles: &Sequence<Name>,
     actions: &Sequence<Action>,
+    finding: &Finding,
     steps: &mut Steps<L>,
 ) -> Result<Answer, Memory>
-    requires { last_stored_serial chronicle.now.list ≤ 2 ^ 63 }
-    ensures { IfOk result (λ answer. answer ≡ due_user_add chronicle.now.list name.now otp.now roles.now actions.now) }
+    requires serial { last_stored_serial chronicle.now.list ≤ 2 ^ 63 }
+    requires keepable { IsKeepable finding.now }
+    ensures { IfOk result (λ answer. answer ≡ due_user_add chronicle.now.list name.now otp.now roles.now actions.now finding.now) }
 {
     match new_user(chronicle, name, otp, actions, steps) {
-        Ok(user) => user_added(alloc, name, roles, user),
+        Ok(user) => user_added(alloc, name, roles, finding, user),
         Err(refusal) => refused(alloc, refusal),
     }
 }

@@ -1,0 +1,74 @@
+-- What the check of a password finds.
+use Rattle.std.specs.Prelude.{ℕ, ◌≤◌, Bool, true, List, ◌++◌, Option, Some, None, option_and_then, slice_index, false}
+use Rattle.std.specs.Int.{w64, to_be_bytes}
+use Rattle.std.specs.Str.{bytes_eq}
+use Rattle.login_base.specs.declared.id.UserId.{UserId}
+use Rattle.login_base.specs.declared.words.Words.{Words}
+use Rattle.facts.specs.declared.ask.Ask.{Ask}
+use Rattle.facts.specs.declared.ask.Ask.TheVariants as asks
+use Rattle.facts.specs.declared.ask.Form.TheVariants as forms
+use Rattle.facts.specs.declared.fact.Fact.{Fact}
+use Rattle.facts.specs.declared.finding.Finding.{Finding}
+use Rattle.facts.specs.declared.finding.Finding.TheVariants as findings
+use Rattle.facts.specs.declared.finding.PasswordUse.{PasswordUse}
+use Rattle.facts.specs.declared.finding.PasswordUse.TheVariants as uses
+use Rattle.facts.specs.declared.passwords.UserPassword.{UserPassword}
+use Rattle.facts.specs.Accounts.{account_named}
+use Rattle.facts.specs.Passwords.{password_use, password_text, emptied}
+use Rattle.facts.specs.Secrets.{password_of}
+use Rattle.facts.specs.Solved.{SolvedAsk}
+use Rattle.mac_kit.specs.Pbkdf2.{pbkdf2_sha256}
+use Rattle.login_hall.specs.declared.task.Task.{Task}
+use Rattle.login_hall.specs.declared.task.Task.TheVariants as tasks
+
+-- the iterations of the built-in realm
+abbrev pub iterations : ℕ
+iterations = 100
+
+-- the salt of an ask: the words 8 and 9
+abbrev pub salt_of : Words → List ℕ
+salt_of words = to_be_bytes w64 (slice_index words.0 8) ++ to_be_bytes w64 (slice_index words.0 9)
+
+-- the account whose password a post checks: that of the name in it
+unfoldable pub target_of : List Fact → Ask → Option UserId
+target_of chronicle (asks.Post root tab code (forms.NamePassword execution name password)) = account_named name chronicle
+target_of chronicle ask = None
+
+-- the password that the post has to fit
+unfoldable pub target_password : List Fact → Ask → Option UserPassword
+target_password chronicle ask = option_and_then (λ user. password_of user chronicle) (target_of chronicle ask)
+
+-- what is to be done with the password of an ask
+unfoldable pub task_for : PasswordUse → Option UserPassword → Words → Option Task
+task_for uses.NoPassword target words = None
+task_for uses.Checks target words = Some (tasks.Check target)
+task_for uses.Sets target words = Some (tasks.Derive (salt_of words) iterations)
+
+-- a password is hashed at least once
+abbrev pub HasRounds : Task → Type 0
+HasRounds (tasks.Check target) = Unit {0}
+HasRounds (tasks.Derive salt count) = 1 ≤ count
+
+-- A password fits exactly where the key that is derived from it is the kept digest. The new password of an ask is
+-- kept as the key that is derived from it.
+unfoldable pub finding_of : Task → List ℕ → Finding
+finding_of (tasks.Check None) password = findings.Checked 0 false
+finding_of (tasks.Check (Some kept)) password = findings.Checked kept.serial (bytes_eq (pbkdf2_sha256 password kept.hash.salt kept.hash.iterations 32) kept.hash.digest)
+finding_of (tasks.Derive salt count) password = findings.Derived salt count (pbkdf2_sha256 password salt count 32)
+
+abbrev pub finding_for : Option Task → List ℕ → Finding
+finding_for None password = findings.None
+finding_for (Some task) password = finding_of task password
+
+-- what is found for an ask over a chronicle
+unfoldable pub found : List Fact → Ask → Words → Finding
+found chronicle ask words = finding_for (task_for (password_use ask) (target_password chronicle ask) words) (password_text ask)
+
+-- the ask with its password gone, and what was found
+abbrev pub solved_of : List Fact → Ask → Words → SolvedAsk
+solved_of chronicle ask words = record { ask = emptied ask; finding = found chronicle ask words }
+
+-- the ask has a password
+abbrev pub has_password : PasswordUse → Bool
+has_password uses.NoPassword = false
+has_password usage = true
