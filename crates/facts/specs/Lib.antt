@@ -9,4 +9,5 @@ pub mod Ranges
 pub mod Secrets
 pub mod Serials
 pub mod Solved
+pub mod Tabs
 pub mod Words

@@ -21,6 +21,7 @@ mod scan;
 mod secret;
 mod serials;
 mod solved;
+mod tabs;
 mod text;
 mod write;
 
@@ -42,4 +43,5 @@ pub use scan::{Fold, Pick, fold_by, last_by};
 pub use secret::{Secret, SecretKind};
 pub use serials::{last_stored_serial, last_tab_serial};
 pub use solved::{Solved, password_use, take_password};
+pub use tabs::{is_finished, is_known, last_code};
 pub use write::words_of;

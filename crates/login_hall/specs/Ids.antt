@@ -4,6 +4,7 @@ use Rattle.login_base.specs.declared.id.Id.{Id}
 use Rattle.login_base.specs.declared.id.RootKey.{RootKey}
 use Rattle.login_base.specs.declared.id.TabKey.{TabKey}
 use Rattle.login_base.specs.declared.id.Code.{Code}
+use Rattle.login_base.specs.declared.id.SessionId.{SessionId}
 use Rattle.login_base.specs.declared.words.Words.{Words}
 
 -- the serial, with the words at this place and the next
@@ -21,3 +22,7 @@ tab_key serial words = record { 0 = id_at serial 2 words }
 -- a code has the words 4 and 5
 abbrev pub code_at : ℕ → Words → Code
 code_at serial words = record { 0 = id_at serial 4 words }
+
+-- a session has the words 6 and 7
+abbrev pub session_at : ℕ → Words → SessionId
+session_at serial words = record { 0 = id_at serial 6 words }

@@ -7,5 +7,6 @@ pub mod Ids
 pub mod Legal
 pub mod NewTab
 pub mod Plain
+pub mod Post
 pub mod Refusals
 pub mod UserAdd

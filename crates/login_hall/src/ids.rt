@@ -1,7 +1,7 @@
 ghost use Rattle.std.specs.Prelude.{◌≡◌, ◌<◌};
-ghost use Rattle.login_hall.specs.Ids.{id_at, root_key, tab_key, code_at};
+ghost use Rattle.login_hall.specs.Ids.{id_at, root_key, tab_key, code_at, session_at};
 
-use login_base::{Code, Id, RootKey, TabKey, Words};
+use login_base::{Code, Id, RootKey, SessionId, TabKey, Words};
 
 /// The id of a serial, with the words at two places.
 fn id_at(serial: u64, place: usize, words: &Words) -> Id
@@ -31,4 +31,10 @@ pub(crate) fn code_at(serial: u64, words: &Words) -> Code
     ensures { result ≡ code_at serial words.now }
 {
     Code(id_at(serial, 4, words))
+}
+
+pub(crate) fn session_at(serial: u64, words: &Words) -> SessionId
+    ensures { result ≡ session_at serial words.now }
+{
+    SessionId(id_at(serial, 6, words))
 }

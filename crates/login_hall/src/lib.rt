@@ -4,15 +4,17 @@
 #![tactic(auto)]
 
 mod answer;
-mod bad;
 mod begun;
+mod check;
 mod due;
 mod found;
 mod hall;
 mod ids;
 mod new_tab;
+mod post;
 mod proposal;
 mod refusal;
+mod refused;
 mod task;
 mod user_add;
 mod work;

@@ -3,9 +3,9 @@ ghost use Rattle.facts.specs.Serials.{last_tab_serial};
 ghost use Rattle.login_hall.specs.NewTab.{due_new_tab, form_need, new_root, tab_opened};
 
 use crate::answer::Answer;
-use crate::bad::refused;
 use crate::ids::{code_at, root_key, tab_key};
 use crate::refusal::Refusal;
+use crate::refused::refused;
 use facts::{Chronicle, Fact, Kind, Need, Reply, What, last_tab_serial};
 use login_base::{Memory, Name, RootKey, Sequence, Steps, Words};
 use std::alloc::Global;
@@ -17,12 +17,19 @@ const BUILTIN_VERSION: u64 = 1;
 /// The life of the built-in realm's tabs, in milliseconds.
 const TAB_LIFE: u64 = 1_800_000;
 
+/// The name of the one execution of the built-in realm.
+pub(crate) fn form_id(alloc: Global) -> Result<Name, Memory>
+    ensures { IfOk result (λ id. id ≡ form_need.id) }
+{
+    Name::known(alloc, b"form")
+}
+
 /// The one execution of the built-in realm.
-pub(crate) fn form_need(alloc: Global) -> Result<Need, Memory>
+fn form_need(alloc: Global) -> Result<Need, Memory>
     ensures { IfOk result (λ need. need ≡ form_need) }
 {
     Ok(Need {
-        id: Name::known(alloc, b"form")?,
+        id: form_id(alloc)?,
         kind: Kind::Form,
         number: 0,
     })

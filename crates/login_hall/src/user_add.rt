@@ -4,8 +4,8 @@ ghost use Rattle.facts.specs.Serials.{last_stored_serial};
 ghost use Rattle.login_hall.specs.UserAdd.{without_setup, name_free, new_user, user_text, first_password, user_added, due_user_add, IsKeepable};
 
 use crate::answer::Answer;
-use crate::bad::{plain, refused};
 use crate::refusal::Refusal;
+use crate::refused::{plain, refused};
 use facts::{
     Action, Chronicle, Fact, Finding, OtpSecret, PasswordHash, Secret, SecretKind, What,
     account_named, last_stored_serial,
