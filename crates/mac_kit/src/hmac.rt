@@ -13,7 +13,7 @@ const OUTER_PAD: u8 = 0x5c;
 
 /// The xor of both, byte by byte.
 pub(crate) fn xored<const N: usize>(first: &[u8; N], second: &[u8; N]) -> [u8; N]
-    ensures { result ≡ xored first.now second.now }
+    ensures value { result ≡ xored first.now second.now }
 {
     let mut out = [0u8; N];
     'bytes: for i in 0..N {
@@ -26,7 +26,7 @@ pub(crate) fn xored<const N: usize>(first: &[u8; N], second: &[u8; N]) -> [u8; N
 #[tactic(auto, unfolding(crate::specs::Hmac::filled_block))]
 fn filled<const B: usize>(text: &[u8]) -> [u8; B]
     requires { length text.now ≤ B }
-    ensures { result ≡ filled_block B text.now }
+    ensures value { result ≡ filled_block B text.now }
 {
     let mut block = [0u8; B];
     'bytes: for (i, byte) in text.iter().enumerate() {
@@ -37,7 +37,7 @@ fn filled<const B: usize>(text: &[u8]) -> [u8; B]
 
 /// The digest of one text.
 fn digest<const N: usize, const B: usize, H: BlockHash<N, B>>(text: &[u8]) -> [u8; N]
-    ensures { result ≡ H.digest_of text.now }
+    ensures value { result ≡ H.digest_of text.now }
 {
     let mut hash = H::begin();
     hash.take(text);
@@ -47,7 +47,7 @@ fn digest<const N: usize, const B: usize, H: BlockHash<N, B>>(text: &[u8]) -> [u
 /// The key as one block: a longer one is hashed first.
 fn block_key<const N: usize, const B: usize, H: BlockHash<N, B>>(key: &[u8]) -> [u8; B]
     requires { AreSizes N B }
-    ensures { result ≡ block_key H.digest_of B key.now }
+    ensures value { result ≡ block_key H.digest_of B key.now }
 {
     if key.len() > B {
         filled(&digest::<N, B, H>(key))
@@ -59,7 +59,7 @@ fn block_key<const N: usize, const B: usize, H: BlockHash<N, B>>(key: &[u8]) -> 
 /// The state after the key's block, xored with a pad.
 fn begun<const N: usize, const B: usize, H: BlockHash<N, B>>(key_block: &[u8; B], pad: u8) -> H
     requires { B ≤ 128 }
-    ensures { H.holds result (xored key_block.now (replicate B pad)) }
+    ensures value { H.holds result (xored key_block.now (replicate B pad)) }
 {
     let mut hash = H::begin();
     hash.take(&xored(key_block, &[pad; B]));
@@ -78,7 +78,7 @@ impl<const N: usize, const B: usize, H: BlockHash<N, B>> Keyed<N, B, H> {
     /// The states of a key.
     pub(crate) fn of(key: &[u8]) -> Keyed<N, B, H>
         requires { AreSizes N B }
-        ensures { HoldsKey H.holds H.digest_of B result.inner result.outer key.now }
+        ensures value { HoldsKey H.holds H.digest_of B result.inner result.outer key.now }
     {
         let block = block_key::<N, B, H>(key);
         Keyed {
@@ -90,7 +90,7 @@ impl<const N: usize, const B: usize, H: BlockHash<N, B>> Keyed<N, B, H> {
     /// The HMAC of the message that the two parts make.
     #[tactic(auto, using(std::proofs::Common::append_assoc), unfolding(crate::specs::Hmac::hmac))]
     pub(crate) fn mac(&self, first: &[u8], second: &[u8]) -> [u8; N]
-        ensures { (key : List ℕ) → HoldsKey H.holds H.digest_of B self.now.inner self.now.outer key
+        ensures value { (key : List ℕ) → HoldsKey H.holds H.digest_of B self.now.inner self.now.outer key
             → result ≡ hmac H.digest_of B key (first.now ++ second.now) }
     {
         let mut inner = self.inner.copied();
@@ -105,7 +105,7 @@ impl<const N: usize, const B: usize, H: BlockHash<N, B>> Keyed<N, B, H> {
 /// HMAC-SHA-1 of a message under a key.
 #[tactic(auto, unfolding(crate::specs::Hmac::hmac_sha1))]
 pub fn hmac_sha1(key: &[u8], message: &[u8]) -> [u8; 20]
-    ensures { result ≡ hmac_sha1 key.now message.now }
+    ensures value { result ≡ hmac_sha1 key.now message.now }
 {
     Keyed::<20, 64, Sha1>::of(key).mac(message, &[])
 }
@@ -113,7 +113,7 @@ pub fn hmac_sha1(key: &[u8], message: &[u8]) -> [u8; 20]
 /// HMAC-SHA-256 of a message under a key.
 #[tactic(auto, unfolding(crate::specs::Hmac::hmac_sha256))]
 pub fn hmac_sha256(key: &[u8], message: &[u8]) -> [u8; 32]
-    ensures { result ≡ hmac_sha256 key.now message.now }
+    ensures value { result ≡ hmac_sha256 key.now message.now }
 {
     Keyed::<32, 64, Sha256>::of(key).mac(message, &[])
 }
@@ -121,7 +121,7 @@ pub fn hmac_sha256(key: &[u8], message: &[u8]) -> [u8; 32]
 /// HMAC-SHA-512 of a message under a key.
 #[tactic(auto, unfolding(crate::specs::Hmac::hmac_sha512))]
 pub fn hmac_sha512(key: &[u8], message: &[u8]) -> [u8; 64]
-    ensures { result ≡ hmac_sha512 key.now message.now }
+    ensures value { result ≡ hmac_sha512 key.now message.now }
 {
     Keyed::<64, 128, Sha512>::of(key).mac(message, &[])
 }

@@ -34,7 +34,7 @@ fn block<const N: usize, const B: usize, H: BlockHash<N, B>>(
 /// Writes the bytes from a place on, as far as there is room for them.
 fn put(out: &mut [u8], at: usize, bytes: &[u8])
     requires { at ≤ length out.old }
-    ensures { take (at + length bytes.now) out.new ≡ take (length out.old) (take at out.old ++ bytes.now) }
+    ensures value { take (at + length bytes.now) out.new ≡ take (length out.old) (take at out.old ++ bytes.now) }
 {
     let room = bytes.len().min(out.len() - at);
     'bytes: for i in 0..room {
@@ -52,7 +52,7 @@ fn derive<const N: usize, const B: usize, H: BlockHash<N, B>>(
     requires count { 1 ≤ count }
     requires room { length out.old ≤ 64 }
     requires sizes { AreSizes N B }
-    ensures { (password : List ℕ) → HoldsKey H.holds H.digest_of B keyed.now.inner keyed.now.outer password
+    ensures value { (password : List ℕ) → HoldsKey H.holds H.digest_of B keyed.now.inner keyed.now.outer password
         → out.new ≡ pbkdf2 (hmac H.digest_of B) N password salt.now count (length out.old) }
 {
     let blocks = out.len().div_ceil(N);
@@ -67,7 +67,7 @@ fn derive<const N: usize, const B: usize, H: BlockHash<N, B>>(
 pub fn pbkdf2_sha1(password: &[u8], salt: &[u8], c: u32, out: &mut [u8])
     requires iterations { 1 ≤ c }
     requires room { length out.old ≤ 64 }
-    ensures { out.new ≡ pbkdf2_sha1 password.now salt.now c (length out.old) }
+    ensures value { out.new ≡ pbkdf2_sha1 password.now salt.now c (length out.old) }
 {
     derive(&Keyed::<20, 64, Sha1>::of(password), salt, c, out);
 }
@@ -78,7 +78,7 @@ pub fn pbkdf2_sha1(password: &[u8], salt: &[u8], c: u32, out: &mut [u8])
 pub fn pbkdf2_sha256(password: &[u8], salt: &[u8], c: u32, out: &mut [u8])
     requires iterations { 1 ≤ c }
     requires room { length out.old ≤ 64 }
-    ensures { out.new ≡ pbkdf2_sha256 password.now salt.now c (length out.old) }
+    ensures value { out.new ≡ pbkdf2_sha256 password.now salt.now c (length out.old) }
 {
     derive(&Keyed::<32, 64, Sha256>::of(password), salt, c, out);
 }

@@ -8,7 +8,7 @@ rounds-init g c = record {
   size = search rules;
   value = λ password taken.
       first_round (hmac g.H.BlockHash.digest_of g.row.B) password c.args.salt.now c.args.number c.mac-last.result c.to_be_bytes.result
-      (c.mac-last.ensures password taken) c.to_be_bytes.ensures;
+      (c.mac-last.ensures.value password taken) c.to_be_bytes.ensures;
 }
 
 pub rounds-preserved : goal.rounds-preserved
@@ -17,7 +17,7 @@ rounds-preserved g c = record {
   value = λ password taken.
       round_more (hmac g.H.BlockHash.digest_of g.row.B) password c.args.salt.now c.args.number c.rounds.counter
       c.rounds.last c.mac-last-in-rounds.result c.rounds.sum c.xored-sum.result (omega arith)
-      (c.rounds.invariant.value password taken) (c.mac-last-in-rounds.ensures password taken) c.xored-sum.ensures;
+      (c.rounds.invariant.value password taken) (c.mac-last-in-rounds.ensures.value password taken) c.xored-sum.ensures.value;
 }
 
 pub returns-clause-value : goal.returns-clause-value

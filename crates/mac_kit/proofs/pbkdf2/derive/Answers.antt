@@ -12,9 +12,11 @@ parts-preserved g c = λ password taken.
     let inside : c.parts.i * g.row.N ≤ length c.args.out.now = omega (arith, starts_inside c.parts.i (length c.args.out.now) g.row.N (omega arith) (omega arith)) in
     block_more (hmac g.H.BlockHash.digest_of g.row.B) password c.args.salt.now c.args.count c.parts.i g.row.N (length c.args.out.now)
     c.parts.out c.put.new.out c.block.result c.block.ensures.size inside (c.block.ensures.value password taken)
-    (c.parts.invariant password taken) (rw c.parts.auto.out at c.put.ensures)
+    (c.parts.invariant password taken) (rw c.parts.auto.out at c.put.ensures.value)
 
 pub returns : goal.returns
-returns g c = λ password taken.
-    all_written (hmac g.H.BlockHash.digest_of g.row.B) password c.args.salt.now c.args.count c.parts.i g.row.N (length c.args.out.now)
-    c.parts.out c.parts.auto.out (omega arith) (omega arith) (c.parts.invariant password taken).1
+returns g c = record {
+  value = λ password taken.
+      all_written (hmac g.H.BlockHash.digest_of g.row.B) password c.args.salt.now c.args.count c.parts.i g.row.N (length c.args.out.now)
+      c.parts.out c.parts.auto.out (omega arith) (omega arith) (c.parts.invariant password taken).1;
+}

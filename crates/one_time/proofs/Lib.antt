@@ -1,0 +1,4 @@
+pub mod Decimals
+pub mod Regrouping
+pub mod Spelling
+pub mod ReadBack

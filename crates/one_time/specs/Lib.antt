@@ -1,0 +1,3 @@
+pub mod Base32
+pub mod Hotp
+pub mod Verdicts
