@@ -22,6 +22,8 @@ mod secret;
 mod serials;
 mod solved;
 mod tabs;
+#[cfg(test)]
+mod tests;
 mod text;
 mod write;
 
