@@ -1,0 +1,12 @@
+//! The program of the login service.
+#![tactic(auto)]
+
+mod asks;
+mod lines;
+mod number;
+mod pairs;
+mod place;
+
+fn main(rt: HostRuntime) {
+    let _ = rt;
+}
