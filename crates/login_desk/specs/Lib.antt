@@ -1,4 +1,5 @@
 pub mod Asks
+pub mod Intake
 pub mod Lines
 pub mod Numbers
 pub mod Pairs

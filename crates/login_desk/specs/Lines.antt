@@ -21,6 +21,16 @@ unfoldable pub lines : List ℕ → List (List ℕ)
 lines [] = []
 lines (b ∷ bytes) = if b == 10 then [] ∷ lines bytes else onto_first b (lines bytes)
 
+-- the byte joins the first line, where there is one
+abbrev pub onto_whole : ℕ → List (List ℕ) → List (List ℕ)
+onto_whole b [] = []
+onto_whole b (line ∷ lines) = (b ∷ line) ∷ lines
+
+-- the lines that a newline ends
+unfoldable pub whole_lines : List ℕ → List (List ℕ)
+whole_lines [] = []
+whole_lines (b ∷ bytes) = if b == 10 then [] ∷ whole_lines bytes else onto_whole b (whole_lines bytes)
+
 -- the bytes have no newline
 abbrev pub IsLine : List ℕ → Type 0
 IsLine line = AllByRecursion (λ b. b ≢ 10) line
@@ -61,6 +71,10 @@ parts_asked line =
     let draw = split_once 32 moment.1 in
     headed (number (2 ^ 53 - 1) moment.0) (number (2 ^ 64 - 1) draw.0) (split_once 32 draw.1)
 
--- what a line of at most 131,072 bytes asks; a longer one has no readable head
-abbrev pub asked_of : List ℕ → Asked
-asked_of line = if nat_lt 131072 (length line) then bad_head else parts_asked line
+-- the most bytes of a line, without its newline
+abbrev pub line_limit : ℕ
+line_limit = 131072
+
+-- what a line asks; one over the limit has no readable head
+unfoldable pub asked_of : List ℕ → Asked
+asked_of line = if nat_lt line_limit (length line) then bad_head else parts_asked line

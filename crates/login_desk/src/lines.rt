@@ -99,6 +99,7 @@ fn parts_asked(alloc: Global, line: &[u8]) -> Result<Asked, Memory>
 }
 
 /// What a line asks.
+#[tactic(auto, unfolding(crate::specs::Lines::asked_of))]
 pub fn asked_of(alloc: Global, line: &[u8]) -> Result<Asked, Memory>
     ensures asked { IfOk result (λ asked. asked ≡ asked_of line.now) }
 {

@@ -2,6 +2,8 @@
 #![tactic(auto)]
 
 mod asks;
+mod edge;
+mod intake;
 mod lines;
 mod number;
 mod pairs;

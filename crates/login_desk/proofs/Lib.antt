@@ -1,0 +1,5 @@
+mod KnownLemmas
+mod LineLemmas
+mod NumberLemmas
+mod PairLemmas
+mod TakingLemmas
