@@ -2,4 +2,6 @@ mod KnownLemmas
 mod LineLemmas
 mod NumberLemmas
 mod PairLemmas
+mod PlayLemmas
+mod RunLemmas
 mod TakingLemmas
