@@ -8,9 +8,9 @@ use Rattle.std.proofs.lemmas.List.{append-nil, length-append}
 use Rattle.std.proofs.lemmas.List.Sums.{fold-append}
 use Rattle.facts.specs.declared.entry.Entry.{Entry}
 use Rattle.facts.specs.declared.fact.Fact.{Fact}
-use Rattle.facts.specs.declared.finding.Finding.TheVariants as findings
 use Rattle.facts.specs.Serials.{last_tab_serial, last_stored_serial}
 use Rattle.login_base.specs.Outside.{before_known, after_known, IsAtEnd}
+use Rattle.login_hall.specs.Found.{solved_of}
 use Rattle.login_hall.specs.Growth.{chronicle_of}
 use Rattle.login_hall.specs.HallState.{HallState, facts_of}
 use Rattle.login_hall.specs.Legal.{entry_due}
@@ -95,7 +95,7 @@ text_of-with_line base journal line = text_of-with journal (entry_of_line base j
 -- what is kept of a line stands for the line
 module _ (base : List Fact) (journal : List Entry) (line kept : List ℕ) (h : IsFront line_limit line kept) where
   entry-front : entry_of_line base journal kept ≡ entry_of_line base journal line
-  entry-front = ap (λ (asked : Asked). entry_due base journal 0 asked.moment asked.words (record { ask = asked.ask; finding = findings.None })) (sym (asked_of-front line kept h))
+  entry-front = ap (λ (asked : Asked). entry_due base journal 0 asked.moment asked.words (solved_of (chronicle_of base journal) asked.ask asked.words)) (sym (asked_of-front line kept h))
 
   with_line-front : with_line base journal kept ≡ with_line base journal line
   with_line-front = λ i. cond (sym (is_passed-front line kept h) i) journal (journal ++ entry-front i ∷ [])

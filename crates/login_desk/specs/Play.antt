@@ -4,8 +4,9 @@ use Rattle.std.specs.List.{flat_map}
 use Rattle.facts.specs.declared.entry.Entry.{Entry}
 use Rattle.facts.specs.declared.fact.Fact.{Fact}
 use Rattle.facts.specs.declared.fact.Fact.TheVariants as facts
-use Rattle.facts.specs.declared.finding.Finding.TheVariants as findings
 use Rattle.facts.specs.Words.{words}
+use Rattle.login_hall.specs.Found.{solved_of}
+use Rattle.login_hall.specs.Growth.{chronicle_of}
 use Rattle.login_hall.specs.Legal.{entry_due}
 use Rattle.login_desk.specs.declared.lines.Asked.{Asked}
 use Rattle.login_desk.specs.Lines.{asked_of, is_passed}
@@ -18,7 +19,7 @@ first_base = facts.Mark 0 0 0 0 ∷ []
 abbrev pub entry_of_line : List Fact → List Entry → List ℕ → Entry
 entry_of_line base journal line =
     let asked : Asked = asked_of line in
-    entry_due base journal 0 asked.moment asked.words (record { ask = asked.ask; finding = findings.None })
+    entry_due base journal 0 asked.moment asked.words (solved_of (chronicle_of base journal) asked.ask asked.words)
 
 -- a journal, and the entry of one more line: one that is passed over has none
 abbrev pub with_line : List Fact → List Entry → List ℕ → List Entry

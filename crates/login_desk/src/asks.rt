@@ -1,7 +1,5 @@
 ghost use Rattle.std.specs.Prelude.{◌≡◌, IfOk, codes};
 ghost use Rattle.std.specs.Option.{option_copied};
-ghost use Rattle.facts.specs.declared.finding.PasswordUse.TheVariants.{NoPassword};
-ghost use Rattle.facts.specs.Passwords.{password_use};
 ghost use Rattle.login_desk.specs.Asks.{absent, is_app, open_form, open_ask, user_name, without_setup, added_user, user_add_ask, verb_ask};
 ghost use Rattle.login_desk.specs.Pairs.{value_of};
 
@@ -43,7 +41,6 @@ fn open_form(pairs: &[Pair]) -> Result<(), Place>
 
 fn open_ask(alloc: Global, pairs: &[Pair]) -> Result<Ask, Memory>
     ensures ask { IfOk result (λ ask. ask ≡ open_ask (open_form pairs.now)) }
-    ensures plain { IfOk result (λ ask. password_use ask ≡ NoPassword) }
 {
     match open_form(pairs) {
         Ok(()) => Ok(Ask::NewTab {
@@ -81,7 +78,6 @@ fn without_setup(pairs: &[Pair]) -> Result<(), Place>
 
 fn added_user(alloc: Global, pairs: &[Pair], name: Name) -> Result<Ask, Memory>
     ensures ask { IfOk result (λ ask. ask ≡ added_user name (without_setup pairs.now)) }
-    ensures plain { IfOk result (λ ask. password_use ask ≡ NoPassword) }
 {
     match without_setup(pairs) {
         Ok(()) => Ok(Ask::Admin {
@@ -100,7 +96,6 @@ fn added_user(alloc: Global, pairs: &[Pair], name: Name) -> Result<Ask, Memory>
 
 fn user_add_ask(alloc: Global, pairs: &[Pair]) -> Result<Ask, Memory>
     ensures ask { IfOk result (λ ask. ask ≡ user_add_ask (user_name (value_of (codes "name") pairs.now)) pairs.now) }
-    ensures plain { IfOk result (λ ask. password_use ask ≡ NoPassword) }
 {
     match user_name(alloc, value_of(pairs, b"name"))? {
         Some(name) => added_user(alloc, pairs, name),
@@ -112,7 +107,6 @@ fn user_add_ask(alloc: Global, pairs: &[Pair]) -> Result<Ask, Memory>
 #[tactic(auto, unfolding(crate::specs::Asks::verb_ask))]
 pub fn verb_ask(alloc: Global, verb: &[u8], pairs: &[Pair]) -> Result<Ask, Memory>
     ensures ask { IfOk result (λ ask. ask ≡ verb_ask verb.now pairs.now) }
-    ensures plain { IfOk result (λ ask. password_use ask ≡ NoPassword) }
 {
     if verb == b"open".as_slice() {
         return open_ask(alloc, pairs);

@@ -1,7 +1,5 @@
 ghost use Rattle.std.specs.Prelude.{◌≡◌, IfOk};
 ghost use Rattle.form_urlencoded.specs.Form.{split_once};
-ghost use Rattle.facts.specs.declared.finding.PasswordUse.TheVariants.{NoPassword};
-ghost use Rattle.facts.specs.Passwords.{password_use};
 ghost use Rattle.login_desk.specs.Lines.{asked_of, parts_asked, is_passed, words_from, bad_head};
 
 use crate::asks::verb_ask;
@@ -69,7 +67,6 @@ fn split_space(text: &[u8]) -> (&[u8], &[u8])
 /// What a line without a readable head asks.
 fn bad_head(alloc: Global) -> Result<Asked, Memory>
     ensures asked { IfOk result (λ asked. asked ≡ bad_head) }
-    ensures plain { IfOk result (λ asked. password_use asked.ask ≡ NoPassword) }
 {
     let ask = bad(alloc, Place::Head)?;
     Ok(Asked {
@@ -83,7 +80,6 @@ fn bad_head(alloc: Global) -> Result<Asked, Memory>
 #[tactic(auto, unfolding(crate::specs::Lines::parts_asked))]
 fn parts_asked(alloc: Global, line: &[u8]) -> Result<Asked, Memory>
     ensures asked { IfOk result (λ asked. asked ≡ parts_asked line.now) }
-    ensures plain { IfOk result (λ asked. password_use asked.ask ≡ NoPassword) }
 {
     let (moment, rest) = split_space(line);
     let (draw, rest) = split_space(rest);
@@ -106,7 +102,6 @@ fn parts_asked(alloc: Global, line: &[u8]) -> Result<Asked, Memory>
 #[tactic(auto, unfolding(crate::specs::Lines::asked_of))]
 pub fn asked_of(alloc: Global, line: &[u8]) -> Result<Asked, Memory>
     ensures asked { IfOk result (λ asked. asked ≡ asked_of line.now) }
-    ensures plain { IfOk result (λ asked. password_use asked.ask ≡ NoPassword) }
 {
     if line.len() > LINE_LIMIT {
         return bad_head(alloc);

@@ -2,6 +2,7 @@ ghost use Rattle.std.specs.Prelude.{◌≡◌, ◌<◌, ◌≤◌, ◌-◌, ◌^
 ghost use Rattle.facts.specs.Serials.{last_tab_serial, last_stored_serial};
 ghost use Rattle.facts.specs.Words.{words};
 ghost use Rattle.login_base.specs.Outside.{Rose};
+ghost use Rattle.login_hall.specs.Begun.{solution_of};
 ghost use Rattle.login_hall.specs.HallState.{facts_of, IsUnchanged};
 ghost use Rattle.login_hall.specs.Legal.{Follows, Raises};
 ghost use Rattle.login_desk.specs.Lines.{is_passed};
@@ -9,7 +10,7 @@ ghost use Rattle.login_desk.specs.Play.{entry_of_line};
 ghost use Rattle.login_desk.specs.Turn.{Answers, TurnEnds, line_text};
 
 use crate::lines::{Asked, asked_of, is_passed};
-use facts::{Reply, words_of};
+use facts::{Reply, Solved, words_of};
 use login_base::{Memory, Put, Sink, Steps, discard};
 use login_hall::{Begun, Hall, Proposal};
 use std::alloc::Global;
@@ -23,6 +24,16 @@ pub enum Turn {
     /// A write failed.
     Failed,
     Memory,
+}
+
+/// The solved ask of one that was begun: the hash of its password is made here.
+fn solved(begun: Begun) -> Solved
+    ensures { result ≡ solution_of begun }
+{
+    match begun {
+        Begun::Work(work) => work.solve(),
+        Begun::Ready(solved) => solved,
+    }
 }
 
 /// The entry that a line is due.
@@ -42,7 +53,7 @@ fn propose_line<L: Ledger>(
     ensures same { IsUnchanged hall.old hall.new }
 {
     let Asked { moment, words, ask } = asked_of(alloc, line)?;
-    let Begun::Ready(solved) = hall.begin(ask, &words);
+    let solved = solved(hall.begin(ask, &words));
     hall.propose(0, moment, words, solved, steps)
 }
 
