@@ -1,0 +1,7 @@
+mod KnownLemmas
+mod LineLemmas
+mod NumberLemmas
+mod PairLemmas
+mod PlayLemmas
+mod RunLemmas
+mod TakingLemmas

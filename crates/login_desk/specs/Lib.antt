@@ -1,0 +1,12 @@
+pub mod Asks
+pub mod Going
+pub mod Intake
+pub mod Lines
+pub mod Numbers
+pub mod Outcome
+pub mod Pairs
+pub mod Places
+pub mod Play
+pub mod Run
+pub mod Statuses
+pub mod Turn

@@ -1,0 +1,37 @@
+ghost use Rattle.std.specs.Prelude.{◌≡◌};
+ghost use Rattle.login_desk.specs.Statuses.{number_of};
+
+/// What the program ends with.
+#[derive(Clone, Copy, Debug, PartialEq, Eq)]
+pub struct Status(pub u8);
+
+/// How a run ends.
+#[derive(Clone, Copy, Debug, PartialEq, Eq)]
+pub enum Outcome {
+    /// The script was read to its end, and every line is answered.
+    Done,
+    /// The words are outside the grammar.
+    Usage,
+    /// A read failed.
+    ReadFailed,
+    /// A write failed.
+    PutFailed,
+    Memory,
+    /// The script has 2^32 bytes or more.
+    TooLong,
+}
+
+impl Outcome {
+    pub fn status(self) -> Status
+        ensures number { result.0 ≡ number_of self }
+    {
+        Status(match self {
+            Outcome::Done => 0,
+            Outcome::Usage => 2,
+            Outcome::ReadFailed => 4,
+            Outcome::PutFailed => 5,
+            Outcome::Memory => 7,
+            Outcome::TooLong => 9,
+        })
+    }
+}

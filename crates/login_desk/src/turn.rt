@@ -1,0 +1,113 @@
+ghost use Rattle.std.specs.Prelude.{◌≡◌, ◌<◌, ◌≤◌, ◌-◌, ◌^◌, ◌++◌, [], ◌∷◌, false, OnOk, IfOk};
+ghost use Rattle.facts.specs.Serials.{last_tab_serial, last_stored_serial};
+ghost use Rattle.facts.specs.Words.{words};
+ghost use Rattle.login_base.specs.Outside.{Rose};
+ghost use Rattle.login_hall.specs.Begun.{solution_of};
+ghost use Rattle.login_hall.specs.HallState.{facts_of, IsUnchanged};
+ghost use Rattle.login_hall.specs.Legal.{Follows, Raises};
+ghost use Rattle.login_desk.specs.Lines.{is_passed};
+ghost use Rattle.login_desk.specs.Play.{entry_of_line};
+ghost use Rattle.login_desk.specs.Turn.{Answers, TurnEnds, line_text};
+
+use crate::lines::{Asked, asked_of, is_passed};
+use facts::{Reply, Solved, words_of};
+use login_base::{Memory, Put, Sink, Steps, discard};
+use login_hall::{Begun, Hall, Proposal};
+use std::alloc::Global;
+use std::sync::ledger::Ledger;
+
+/// How one line came out.
+#[derive(Clone, Copy, Debug, PartialEq, Eq)]
+pub enum Turn {
+    /// The line was passed over, or its reply was written.
+    Told,
+    /// A write failed.
+    Failed,
+    Memory,
+}
+
+/// The solved ask of one that was begun: the hash of its password is made here.
+fn solved(begun: Begun) -> Solved
+    ensures { result ≡ solution_of begun }
+{
+    match begun {
+        Begun::Work(work) => work.solve(),
+        Begun::Ready(solved) => solved,
+    }
+}
+
+/// The entry that a line is due.
+fn propose_line<L: Ledger>(
+    alloc: Global,
+    hall: &mut Hall,
+    line: &[u8],
+    steps: &mut Steps<L>,
+) -> Result<Proposal, Memory>
+    requires tabs { last_tab_serial (facts_of hall.old) ≤ 2 ^ 63 - 8 }
+    requires stored { last_stored_serial (facts_of hall.old) ≤ 2 ^ 63 - 8 }
+    ensures entry { IfOk result (λ p. p ≡ entry_of_line hall.old.base hall.old.journal line.now) }
+    ensures follows { IfOk result (λ p. Follows hall.new.base hall.new.journal p) }
+    ensures waiting { IfOk result (λ p. hall.new.waiting ≡ p.added) }
+    ensures room { OnOk result (0 < hall.new.room) }
+    ensures raises { IfOk result (λ p. Raises (facts_of hall.old) (facts_of hall.old ++ p.added)) }
+    ensures same { IsUnchanged hall.old hall.new }
+{
+    let Asked { moment, words, ask } = asked_of(alloc, line)?;
+    let solved = solved(hall.begin(ask, &words));
+    hall.propose(0, moment, words, solved, steps)
+}
+
+/// The words of a reply, as a line.
+fn text_of(alloc: Global, reply: &Reply) -> Result<Vec<u8>, Memory>
+    ensures { IfOk result (λ text. text.items ≡ words reply.now ++ 10 ∷ []) }
+{
+    let mut text = words_of(alloc, reply)?;
+    text.push(b'\n')?;
+    Ok(text)
+}
+
+/// Adds the entry of a line, and answers its text.
+fn enter_line<L: Ledger>(
+    alloc: Global,
+    hall: &mut Hall,
+    line: &[u8],
+    steps: &mut Steps<L>,
+) -> Result<Vec<u8>, Memory>
+    requires tabs { last_tab_serial (facts_of hall.old) ≤ 2 ^ 63 - 8 }
+    requires stored { last_stored_serial (facts_of hall.old) ≤ 2 ^ 63 - 8 }
+    requires wanted { is_passed line.now ≡ false }
+    ensures entry { OnOk result (Answers hall.old hall.new line.now) }
+    ensures text { IfOk result (λ text. text.items ≡ line_text hall.old.base hall.old.journal line.now) }
+{
+    let proposal = propose_line(alloc, hall, line, steps)?;
+    let reply = hall.adopt(proposal);
+    let text = text_of(alloc, &reply);
+    discard(reply);
+    text
+}
+
+/// Answers one line.
+pub fn answer_line<L: Ledger, W: Sink>(
+    alloc: Global,
+    hall: &mut Hall,
+    line: &[u8],
+    sink: &mut W,
+    steps: &mut Steps<L>,
+) -> Turn
+    requires tabs { last_tab_serial (facts_of hall.old) ≤ 2 ^ 63 - 8 }
+    requires stored { last_stored_serial (facts_of hall.old) ≤ 2 ^ 63 - 8 }
+    ensures turn { TurnEnds hall.old hall.new line.now (W.written sink.old) (W.written sink.new) result }
+    ensures cause { result ≡ Turn.Failed → Rose (W.faults sink.old) (W.faults sink.new) }
+    ensures faults { W.faults sink.old ≤ W.faults sink.new }
+{
+    if is_passed(line) {
+        return Turn::Told;
+    }
+    match enter_line(alloc, hall, line, steps) {
+        Ok(text) => match sink.put(text.as_slice()) {
+            Put::All => Turn::Told,
+            Put::Failed => Turn::Failed,
+        },
+        Err(Memory) => Turn::Memory,
+    }
+}
