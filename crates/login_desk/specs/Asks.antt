@@ -1,15 +1,22 @@
 -- What a verb and its pairs ask.
-use Rattle.std.specs.Prelude.{ℕ, List, [], Option, Some, None, Result, Ok, Err, map, codes, if◌then◌else◌}
+use Rattle.std.specs.Prelude.{ℕ, Bool, false, not, ◌&&◌, ◌||◌, nat_le, nat_eq, List, [], ◌∷◌, length, Option, Some, None, option_and_then, Result, Ok, Err, map, codes, if◌then◌else◌}
+use Rattle.std.specs.Option.{option_map}
+use Rattle.std.specs.List.{starts_with}
 use Rattle.std.specs.Char.{to_ascii_lowercase}
 use Rattle.std.specs.Str.{bytes_eq}
+use Rattle.login_base.specs.IdText.{id_of}
 use Rattle.login_base.specs.Names.{is_name}
+use Rattle.login_base.specs.declared.id.Id.{Id}
+use Rattle.login_base.specs.declared.id.RootKey.{RootKey}
 use Rattle.facts.specs.declared.admin.AdminVerb.TheVariants as verbs
 use Rattle.facts.specs.declared.ask.Access.TheVariants as accesses
 use Rattle.facts.specs.declared.ask.Ask.{Ask}
 use Rattle.facts.specs.declared.ask.Ask.TheVariants as asks
+use Rattle.facts.specs.declared.ask.Form.TheVariants as forms
 use Rattle.login_desk.specs.declared.pairs.Pair.{Pair}
 use Rattle.login_desk.specs.declared.place.Place.{Place}
 use Rattle.login_desk.specs.declared.place.Place.TheVariants as places
+use Rattle.login_desk.specs.declared.posted_to.PostedTo.{PostedTo}
 use Rattle.login_desk.specs.Pairs.{pairs_of, has, value_of}
 use Rattle.login_desk.specs.Places.{place_text}
 
@@ -22,6 +29,11 @@ abbrev pub ◌>>=◌ : {A B : Type 0} → Result A Place → (A → Result B Pla
 -- the pair of this name isn't there
 abbrev pub absent : Place → List Pair → Result (Unit {0}) Place
 absent place pairs = if has (place_text place) pairs then Err place else Ok tt
+
+-- the bytes of U+FFFD stand somewhere in the text
+unfoldable pub has_replacement : List ℕ → Bool
+has_replacement [] = false
+has_replacement (b ∷ bytes) = starts_with nat_eq (b ∷ bytes) (239 ∷ 191 ∷ 189 ∷ []) || has_replacement bytes
 
 -- ---- open
 
@@ -40,28 +52,101 @@ abbrev pub open_ask : Result (Unit {0}) Place → Ask
 open_ask (Ok form) = asks.NewTab None (codes "app") None
 open_ask (Err place) = asks.Bad (place_text place)
 
--- ---- user-add
+-- ---- names and passwords
 
 -- a user's name, whose capitals are read as small letters
 abbrev pub user_name : Option (List ℕ) → Option (List ℕ)
 user_name (Some value) = let name = map to_ascii_lowercase value in if is_name name then Some name else None
 user_name None = None
 
--- the pairs of an account that can't be set up yet
-unfoldable pub without_setup : List Pair → Result (Unit {0}) Place
-without_setup pairs = do
-  password ← absent places.Password pairs
+-- 1 to 256 bytes of UTF-8; the character U+FFFD stands where the bytes weren't UTF-8
+abbrev pub is_password : List ℕ → Bool
+is_password value = nat_le 1 (length value) && nat_le (length value) 256 && not (has_replacement value)
+
+-- a password is given
+abbrev pub password_given : Option (List ℕ) → Result (Unit {0}) Place
+password_given (Some value) = if is_password value then Ok tt else Err places.Password
+password_given None = Err places.Password
+
+-- no password is given, or a well-formed one
+abbrev pub optional_password : List Pair → Result (Unit {0}) Place
+optional_password pairs = if has (codes "password") pairs then password_given (value_of (codes "password") pairs) else Ok tt
+
+-- ---- user-add
+
+-- a password may be given; a one-time secret, roles and actions can't yet
+unfoldable pub user_setup : List Pair → Result (Unit {0}) Place
+user_setup pairs = do
+  password ← optional_password pairs
   otp ← absent places.Otp pairs
   roles ← absent places.Roles pairs
   absent places.Actions pairs
 
-abbrev pub added_user : List ℕ → Result (Unit {0}) Place → Ask
-added_user name (Ok setup) = asks.Admin accesses.Local (verbs.UserAdd name None None [] [])
-added_user name (Err place) = asks.Bad (place_text place)
+abbrev pub added_user : List ℕ → Option (List ℕ) → Result (Unit {0}) Place → Ask
+added_user name password (Ok setup) = asks.Admin accesses.Local (verbs.UserAdd name password None [] [])
+added_user name password (Err place) = asks.Bad (place_text place)
 
 abbrev pub user_add_ask : Option (List ℕ) → List Pair → Ask
-user_add_ask (Some name) pairs = added_user name (without_setup pairs)
+user_add_ask (Some name) pairs = added_user name (value_of (codes "password") pairs) (user_setup pairs)
 user_add_ask None pairs = asks.Bad (codes "name")
+
+-- ---- post
+
+-- a root may be given: one outside the grammar counts as absent, and two are malformed
+abbrev pub root_from : Option (List ℕ) → Result (Option RootKey) Place
+root_from (Some value) = Ok (option_map (λ id. record { 0 = id }) (id_of value))
+root_from None = Err places.Root
+
+abbrev pub root_given : List Pair → Result (Option RootKey) Place
+root_given pairs = if has (codes "root") pairs then root_from (value_of (codes "root") pairs) else Ok None
+
+-- an id is given at this place
+abbrev pub id_from : Place → Option Id → Result Id Place
+id_from place (Some id) = Ok id
+id_from place None = Err place
+
+abbrev pub id_given : Place → List Pair → Result Id Place
+id_given place pairs = id_from place (option_and_then id_of (value_of (place_text place) pairs))
+
+-- the pairs of the form of name and password, and of no other
+abbrev pub right_form : List Pair → Result (Unit {0}) Place
+right_form pairs =
+    if has (codes "execution") pairs && has (codes "name") pairs && has (codes "password") pairs && not (has (codes "action") pairs) && not (has (codes "value") pairs) then Ok tt
+    else Err places.Form
+
+-- the one execution of the built-in realm
+abbrev pub is_form : Option (List ℕ) → Result (Unit {0}) Place
+is_form (Some value) = if bytes_eq value (codes "form") then Ok tt else Err places.Execution
+is_form None = Err places.Execution
+
+abbrev pub name_given : Option (List ℕ) → Result (Unit {0}) Place
+name_given (Some name) = Ok tt
+name_given None = Err places.Name
+
+-- what a post is posted to, where its pairs are well-formed
+unfoldable pub posted_to : Option (List ℕ) → List Pair → Result PostedTo Place
+posted_to name pairs = do
+  root ← root_given pairs
+  tab ← id_given places.Tab pairs
+  code ← id_given places.Code pairs
+  form ← right_form pairs
+  execution ← is_form (value_of (codes "execution") pairs)
+  named ← name_given name
+  password ← password_given (value_of (codes "password") pairs)
+  Ok (record { root = root; tab = record { 0 = tab }; code = record { 0 = code } })
+
+-- the post of a name and a password, none where they aren't there
+abbrev pub name_post : PostedTo → Option (List ℕ) → Option (List ℕ) → Ask
+name_post to (Some name) (Some password) = asks.Post to.root to.tab to.code (forms.NamePassword (codes "form") name password)
+name_post to (Some name) None = asks.Bad (codes "password")
+name_post to None password = asks.Bad (codes "name")
+
+abbrev pub post_with : Result PostedTo Place → Option (List ℕ) → Option (List ℕ) → Ask
+post_with (Ok to) name password = name_post to name password
+post_with (Err place) name password = asks.Bad (place_text place)
+
+abbrev pub post_ask : Option (List ℕ) → List Pair → Ask
+post_ask name pairs = post_with (posted_to name pairs) name (value_of (codes "password") pairs)
 
 -- ---- verbs
 
@@ -70,4 +155,5 @@ unfoldable pub verb_ask : List ℕ → List Pair → Ask
 verb_ask verb pairs =
     if bytes_eq verb (codes "open") then open_ask (open_form pairs)
     else if bytes_eq verb (codes "user-add") then user_add_ask (user_name (value_of (codes "name") pairs)) pairs
+    else if bytes_eq verb (codes "post") then post_ask (user_name (value_of (codes "name") pairs)) pairs
     else asks.Bad (codes "verb")

@@ -1,12 +1,14 @@
 ghost use Rattle.std.specs.Prelude.{◌≡◌, IfOk, codes};
 ghost use Rattle.std.specs.Option.{option_copied};
-ghost use Rattle.login_desk.specs.Asks.{absent, is_app, open_form, open_ask, user_name, without_setup, added_user, user_add_ask, verb_ask};
+ghost use Rattle.login_desk.specs.Asks.{absent, is_app, open_form, open_ask, user_name, user_setup, added_user, user_add_ask, verb_ask};
 ghost use Rattle.login_desk.specs.Pairs.{value_of};
 
+use crate::credentials::{copied, optional_password, user_name};
 use crate::pairs::{Pair, has, value_of};
 use crate::place::{Place, bad};
+use crate::post::post_ask;
 use facts::{Access, AdminVerb, Ask};
-use login_base::{Memory, Name, Sequence, read_name};
+use login_base::{Memory, Name, Sequence};
 use std::alloc::Global;
 
 /// The pair of this name isn't there.
@@ -52,39 +54,26 @@ fn open_ask(alloc: Global, pairs: &[Pair]) -> Result<Ask, Memory>
     }
 }
 
-/// The name of a user, whose capitals are read as small letters.
-fn user_name(alloc: Global, value: Option<&[u8]>) -> Result<Option<Name>, Memory>
-    ensures { IfOk result (λ name. name ≡ user_name (option_copied value.entry)) }
+/// A password may be given; a one-time secret, roles and actions can't yet.
+#[tactic(auto, unfolding(crate::specs::Asks::user_setup))]
+fn user_setup(pairs: &[Pair]) -> Result<(), Place>
+    ensures { result ≡ user_setup pairs.now }
 {
-    match value {
-        Some(value) => {
-            let text = value.to_ascii_lowercase(alloc)?;
-            read_name(alloc, text.as_slice())
-        }
-        None => Ok(None),
-    }
-}
-
-/// Neither a password, a one-time secret, roles nor actions can be given to a user yet.
-#[tactic(auto, unfolding(crate::specs::Asks::without_setup))]
-fn without_setup(pairs: &[Pair]) -> Result<(), Place>
-    ensures { result ≡ without_setup pairs.now }
-{
-    absent(Place::Password, pairs)?;
+    optional_password(pairs)?;
     absent(Place::Otp, pairs)?;
     absent(Place::Roles, pairs)?;
     absent(Place::Actions, pairs)
 }
 
 fn added_user(alloc: Global, pairs: &[Pair], name: Name) -> Result<Ask, Memory>
-    ensures ask { IfOk result (λ ask. ask ≡ added_user name (without_setup pairs.now)) }
+    ensures ask { IfOk result (λ ask. ask ≡ added_user name (value_of (codes "password") pairs.now) (user_setup pairs.now)) }
 {
-    match without_setup(pairs) {
+    match user_setup(pairs) {
         Ok(()) => Ok(Ask::Admin {
             access: Access::Local,
             verb: AdminVerb::UserAdd {
                 name,
-                password: None,
+                password: copied(alloc, value_of(pairs, b"password"))?,
                 otp: None,
                 roles: Sequence::new(alloc),
                 actions: Sequence::new(alloc),
@@ -113,6 +102,9 @@ pub fn verb_ask(alloc: Global, verb: &[u8], pairs: &[Pair]) -> Result<Ask, Memor
     }
     if verb == b"user-add".as_slice() {
         return user_add_ask(alloc, pairs);
+    }
+    if verb == b"post".as_slice() {
+        return post_ask(alloc, pairs);
     }
     bad(alloc, Place::Verb)
 }

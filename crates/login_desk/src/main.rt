@@ -4,6 +4,7 @@
 #![tactic(auto)]
 
 mod asks;
+mod credentials;
 mod edge;
 mod intake;
 mod lines;
@@ -11,6 +12,8 @@ mod number;
 mod pairs;
 mod place;
 mod play;
+mod post;
+mod posted_to;
 mod run;
 mod status;
 mod turn;
