@@ -47,7 +47,6 @@ pub is_passed-front : (line kept : List ℕ) → IsFront line_limit line kept �
 is_passed-front line [] h = ap is_passed (front-none line h)
 is_passed-front line (b ∷ kept) h = ap is_passed h.begins
 
-
 -- what depends on a line within the limit alone
 within : {A : Type 0} (limit : ℕ) (line kept : List ℕ) (long : A) (f : List ℕ → A) (t : Bool) → nat_lt limit (length kept) ≡ t → IsFront limit line kept
     → cond (nat_lt limit (length line)) long (f line) ≡ cond (nat_lt limit (length kept)) long (f kept)

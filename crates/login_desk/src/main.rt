@@ -13,6 +13,8 @@ mod place;
 mod play;
 mod run;
 mod status;
+#[cfg(test)]
+mod tests;
 mod turn;
 
 use edge::{Input, Output};
