@@ -1,7 +1,6 @@
 -- Lines without newlines in them, and the front that is kept of one.
 use Rattle.std.proofs.Common.{◌≡◌, ◌≢◌, ℕ, ◌+◌, ◌<◌, ◌≤◌, Bool, true, false, cond, List, [], ◌∷◌, ◌++◌, length, refl, sym, ap, ◌∙◌, append_assoc, arith}
 use Rattle.std.specs.Prelude.{nat_le, nat_lt}
-use Rattle.std.specs.List.{AllByRecursion}
 use Rattle.std.proofs.lemmas.List.{append-nil, length-append}
 use Rattle.std.proofs.lemmas.Bool.Decides.{nat_tests}
 use Rattle.login_desk.specs.Lines.{IsLine, line_limit, is_passed, bad_head, parts_asked, asked_of}
@@ -46,7 +45,6 @@ front-none line h = front_is line_limit line [] h (omega arith)
 pub is_passed-front : (line kept : List ℕ) → IsFront line_limit line kept → is_passed line ≡ is_passed kept
 is_passed-front line [] h = ap is_passed (front-none line h)
 is_passed-front line (b ∷ kept) h = ap is_passed h.begins
-
 
 -- what depends on a line within the limit alone
 within : {A : Type 0} (limit : ℕ) (line kept : List ℕ) (long : A) (f : List ℕ → A) (t : Bool) → nat_lt limit (length kept) ≡ t → IsFront limit line kept

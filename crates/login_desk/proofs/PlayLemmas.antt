@@ -1,7 +1,7 @@
 -- Lines that are joined are the lines again, and what one more line adds to a play.
-use Rattle.std.proofs.Common.{◌≡◌, ◌≢◌, ℕ, ◌+◌, ◌-◌, ◌*◌, ◌^◌, ◌<◌, ◌≤◌, Bool, true, false, cond, List, [], ◌∷◌, ◌++◌, length, refl, sym, ap, ◌∙◌, append_assoc, arith}
-use Rattle.std.specs.Prelude.{Option, fold}
-use Rattle.std.specs.List.{flat_map, AllByRecursion}
+use Rattle.std.proofs.Common.{◌≡◌, ℕ, ◌+◌, ◌-◌, ◌^◌, ◌<◌, ◌≤◌, Bool, true, false, cond, List, [], ◌∷◌, ◌++◌, length, refl, sym, ap, ◌∙◌, append_assoc, arith}
+use Rattle.std.specs.Prelude.{Option}
+use Rattle.std.specs.List.{AllByRecursion}
 use Rattle.std.proofs.lemmas.Bool.{ne_eqb}
 use Rattle.std.proofs.lemmas.Grind.{flat_map-append}
 use Rattle.std.proofs.lemmas.List.{append-nil, length-append}
@@ -9,7 +9,7 @@ use Rattle.std.proofs.lemmas.List.Sums.{fold-append}
 use Rattle.facts.specs.declared.entry.Entry.{Entry}
 use Rattle.facts.specs.declared.fact.Fact.{Fact}
 use Rattle.facts.specs.Serials.{last_tab_serial, last_stored_serial}
-use Rattle.login_base.specs.Outside.{before_known, after_known, IsAtEnd}
+use Rattle.login_base.specs.Outside.{before_known, after_known}
 use Rattle.login_hall.specs.Found.{solved_of}
 use Rattle.login_hall.specs.Growth.{chronicle_of}
 use Rattle.login_hall.specs.HallState.{HallState, facts_of}
@@ -19,7 +19,7 @@ use Rattle.login_desk.specs.declared.turn.Turn.{Turn}
 use Rattle.login_desk.specs.declared.turn.Turn.TheVariants as turns
 use Rattle.login_desk.specs.Going.{Going}
 use Rattle.login_desk.specs.Intake.{Held, rest, IsFront, TakesLine, TakesLast, FindsEnd, MeetsFault, MeetsLimit}
-use Rattle.login_desk.specs.Lines.{lines, whole_lines, onto_first, onto_whole, IsLine, line_limit, ended, joined, is_passed, asked_of}
+use Rattle.login_desk.specs.Lines.{lines, whole_lines, IsLine, line_limit, ended, joined, is_passed}
 use Rattle.login_desk.specs.Outcome.{IsAnswered, IsStopped, IsOverlong, IsStarved, IsCut, PlayEnds, end_of}
 use Rattle.login_desk.specs.Play.{first_base, entry_of_line, with_line, history, entry_text, text_of, play_text}
 use Rattle.login_desk.specs.Turn.{Answers, TurnEnds, WritesFront, line_text}

@@ -1,5 +1,5 @@
 -- The cause of each status.
-use Rattle.std.proofs.Common.{◌≡◌, ◌≢◌, ℕ, ◌+◌, ◌^◌, ◌<◌, ◌≤◌, Bool, true, false, List, [], ◌∷◌, ◌++◌, Some, None, length, refl, sym, ap, ◌∙◌, append_assoc, inl, inr, arith}
+use Rattle.std.proofs.Common.{◌≡◌, ℕ, ◌^◌, true, false, List, [], ◌++◌, Some, None, length, refl, sym, ap, ◌∙◌, append_assoc, inl, inr, arith}
 use Rattle.std.specs.Prelude.{Option, ◌⊎◌}
 use Rattle.std.proofs.lemmas.Bool.{false≢true}
 use Rattle.std.proofs.lemmas.List.{append-nil, length-append}
@@ -9,7 +9,7 @@ use Rattle.login_desk.specs.declared.status.Outcome.TheVariants as outcomes
 use Rattle.login_desk.specs.Lines.{lines, whole_lines}
 use Rattle.login_desk.specs.Outcome.{IsAnswered, IsStopped, IsOverlong, IsStarved, IsCut}
 use Rattle.login_desk.specs.Play.{play_text}
-use Rattle.login_desk.specs.Run.{RunEnds, LineEnds, IsDue, IsCutOff, IsShort, is_replay, is_status, usage_line, read_line, script_line}
+use Rattle.login_desk.specs.Run.{RunEnds, LineEnds, IsCutOff, IsShort, is_replay, is_status, usage_line, read_line, script_line}
 use Rattle.login_desk.specs.Run.IsDue.{Usage, Replies, Fault, Overlong}
 use Rattle.login_desk.specs.Statuses.{number_of}
 use Rattle.login_desk.specs.Turn.{WritesFront}

@@ -1,12 +1,12 @@
 -- A line that is taken byte by byte.
-use Rattle.std.proofs.Common.{◌≡◌, ◌≢◌, ℕ, ◌+◌, ◌^◌, ◌<◌, ◌≤◌, List, [], ◌∷◌, ◌++◌, length, refl, sym, ap, ◌∙◌, arith}
+use Rattle.std.proofs.Common.{◌≡◌, ◌≢◌, ℕ, ◌+◌, List, [], ◌∷◌, ◌++◌, sym, arith}
 use Rattle.std.specs.Prelude.{Option}
 use Rattle.std.proofs.lemmas.List.{length-append}
-use Rattle.login_base.specs.Outside.{before_known, IsAtEnd}
-use Rattle.login_desk.specs.Lines.{IsLine, line_limit}
-use Rattle.login_desk.specs.Intake.{Held, rest, IsFront, Taking, TakesLine, TakesLast, FindsEnd, MeetsFault, MeetsLimit, with_byte}
+use Rattle.login_base.specs.Outside.{before_known}
+use Rattle.login_desk.specs.Lines.{line_limit}
+use Rattle.login_desk.specs.Intake.{Held, rest, Taking, with_byte}
 use Rattle.login_desk.proofs.KnownLemmas.{before_known-nil, one_more}
-use Rattle.login_desk.proofs.LineLemmas.{IsLine-push, IsFront-nil, IsFront-push, front-some, front-none}
+use Rattle.login_desk.proofs.LineLemmas.{IsLine-push, IsFront-nil, IsFront-push}
 
 pub starts : (held : Held) (left : Option (List ℕ)) (kept : List ℕ) → kept ≡ [] → Taking held left kept held left
 starts held left kept e = rw e (record { line = []; plain = tt; front = IsFront-nil line_limit; came = sym (before_known-nil (rest held left)); count = omega arith })

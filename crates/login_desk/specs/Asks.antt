@@ -17,7 +17,7 @@ use Rattle.login_desk.specs.declared.pairs.Pair.{Pair}
 use Rattle.login_desk.specs.declared.place.Place.{Place}
 use Rattle.login_desk.specs.declared.place.Place.TheVariants as places
 use Rattle.login_desk.specs.declared.posted_to.PostedTo.{PostedTo}
-use Rattle.login_desk.specs.Pairs.{pairs_of, has, value_of}
+use Rattle.login_desk.specs.Pairs.{has, value_of}
 use Rattle.login_desk.specs.Places.{place_text}
 
 -- the first malformed place stands

@@ -1,7 +1,7 @@
 -- What the program writes, and the cause of each status.
 use Rattle.std.specs.Prelude.{◌≡◌, ◌⊎◌, ◌==◌, ◌||◌, ℕ, ◌^◌, ◌<◌, Bool, true, false, List, [], ◌∷◌, ◌++◌, Option, Some, None, length, codes}
 use Rattle.std.specs.Str.{bytes_eq}
-use Rattle.login_base.specs.Outside.{before_known, after_known, counted, Rose}
+use Rattle.login_base.specs.Outside.{before_known, after_known, Rose}
 use Rattle.login_desk.specs.declared.status.Outcome.{Outcome}
 use Rattle.login_desk.specs.declared.status.Outcome.TheVariants as outcomes
 use Rattle.login_desk.specs.Lines.{lines, whole_lines}

@@ -71,3 +71,53 @@ impl<W: io::Write> Sink for Output<W> {
         }
     }
 }
+
+#[cfg(test)]
+mod tests {
+    use super::*;
+    use std::test::Fail;
+
+    /// Fails at each call.
+    #[derive(Drop)]
+    struct Broken;
+
+    impl io::Read for Broken {
+        fn read(&mut self, _buffer: &mut [u8]) -> io::Result<usize> {
+            Err(io::Error::from(io::ErrorKind::Other))
+        }
+    }
+
+    impl io::Write for Broken {
+        fn write(&mut self, _bytes: &[u8]) -> io::Result<usize> {
+            Err(io::Error::from(io::ErrorKind::Other))
+        }
+
+        fn flush(&mut self) -> io::Result<()> {
+            Ok(())
+        }
+    }
+
+    #[test]
+    fn faults_and_ends_are_counted(rt: HostRuntime) -> Result<(), Fail> {
+        let mut buffer = [0u8; 4];
+        let mut input = Input::new(b"abcde".as_slice());
+        assert!(rt; input.read(&mut buffer) == Read::Got(4));
+        assert!(rt; input.read(&mut []) == Read::Got(0));
+        assert_eq!(rt; input.ends, 0);
+        assert!(rt; input.read(&mut buffer) == Read::Got(1));
+        assert!(rt; input.read(&mut buffer) == Read::Got(0));
+        assert_eq!(rt; input.ends, 1);
+        assert_eq!(rt; input.faults, 0);
+        let mut broken = Input::new(Broken);
+        assert!(rt; broken.read(&mut buffer) == Read::Failed);
+        assert_eq!(rt; broken.faults, 1);
+        let mut output = Output::new(Vec::new(rt.alloc()));
+        assert!(rt; output.put(b"ab") == Put::All);
+        assert!(rt; output.put(b"c") == Put::All);
+        assert_eq!(rt; output.writer.as_slice(), b"abc".as_slice());
+        let mut broken = Output::new(Broken);
+        assert!(rt; broken.put(b"ab") == Put::Failed);
+        assert_eq!(rt; broken.faults, 1);
+        Ok(())
+    }
+}

@@ -16,6 +16,8 @@ mod post;
 mod posted_to;
 mod run;
 mod status;
+#[cfg(test)]
+mod tests;
 mod turn;
 
 use edge::{Input, Output};

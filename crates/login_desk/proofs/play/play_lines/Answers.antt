@@ -1,4 +1,4 @@
-use Rattle.std.proofs.Common.{◌∙◌, refl, arith, rules}
+use Rattle.std.proofs.Common.{◌∙◌, refl, arith}
 use Rattle.login_desk.proofs.PlayLemmas.{starts, few_tabs, few_stored, starved, answered, stopped, overlong, cut, goes_on, last_turn}
 use Rattle.login_desk.proofs.play.play_lines.Goals as goal
 

@@ -1,0 +1,238 @@
+use crate::run::run;
+use crate::status::Status;
+use login_base::{Argv, MemSink, MemSource, Memory};
+use std::alloc::Global;
+use std::process::Abort;
+use std::test::Fail;
+
+/// What a run ends with, and what it wrote.
+#[derive(Drop)]
+struct Replayed {
+    status: u8,
+    text: Vec<u8>,
+}
+
+/// Runs the program on these words and this script. The reads and the writes of these numbers
+/// fail.
+fn run_on(
+    alloc: Global,
+    words: &[&str],
+    script: &[u8],
+    failing_reads: &[u64],
+    failing_puts: &[u64],
+) -> Result<Replayed, Memory> {
+    let mut argv = Argv::make(alloc);
+    for word in words {
+        argv.push(word)?;
+    }
+    let bytes = Vec::from_slice(alloc, script)?;
+    let mut source = MemSource::make(bytes, Vec::from_slice(alloc, failing_reads)?);
+    let mut sink = MemSink::make(alloc, Vec::from_slice(alloc, failing_puts)?);
+    let Status(status) = run(alloc, &argv, &mut source, &mut sink);
+    let text = Vec::from_slice(alloc, sink.bytes())?;
+    Ok(Replayed { status, text })
+}
+
+/// What a replay of a script writes, where nothing fails.
+fn text_of(rt: &impl Abort, alloc: Global, script: &[u8]) -> Result<Vec<u8>, Memory> {
+    let replayed = run_on(alloc, &["replay"], script, &[], &[])?;
+    assert_eq!(rt; replayed.status, 0);
+    Ok(replayed.text)
+}
+
+/// Scripts and what is written for them.
+const SCRIPTS: [(&str, &str); 9] = [
+    ("", ""),
+    ("\n\n# 1 1 open client=app\n", ""),
+    ("x\n", "refused 1 BadForm at=head\n"),
+    (
+        "1000 100 user-add name=Ann\n2000 200 open client=app\n2500 250 user-add name=ann\n3000 300 open client=app\n",
+        "told user name=ann id=1\nroot=0000000000000001.00000000000000c800000000000000c9 tab=0000000000000002.00000000000000ca00000000000000cb form code=0000000000000003.00000000000000cc00000000000000cd asked=form:form\nrefused 2 AdminRefused rule=UserTaken\nroot=0000000000000004.000000000000012c000000000000012d tab=0000000000000005.000000000000012e000000000000012f form code=0000000000000006.00000000000001300000000000000131 asked=form:form\n",
+    ),
+    ("1 1 user-add name=ann", "told user name=ann id=1\n"),
+    (
+        "0 0 user-add na%6de=%41nn&other=1&=&&x\n0 0 user-add name=9.b_c@d-e&Password=p\n",
+        "told user name=ann id=1\ntold user name=9.b_c@d-e id=2\n",
+    ),
+    (
+        "9007199254740991 18446744073709551615 open client=app\n",
+        "root=0000000000000001.ffffffffffffffff0000000000000000 tab=0000000000000002.00000000000000010000000000000002 form code=0000000000000003.00000000000000030000000000000004 asked=form:form\n",
+    ),
+    (
+        "x\n1 1 user-add name=ann\r\n",
+        "refused 1 BadForm at=head\nrefused 1 BadForm at=name\n",
+    ),
+    (
+        "1 1 user-add name=ann \n1 1 user-add name=%61\n",
+        "refused 1 BadForm at=name\ntold user name=a id=1\n",
+    ),
+];
+
+#[test]
+fn scripts_are_answered(rt: HostRuntime) -> Result<(), Fail> {
+    for (script, text) in SCRIPTS {
+        assert_eq!(rt;
+            text_of(&rt, rt.alloc(), script.as_bytes())?.as_slice(),
+            text.as_bytes()
+        );
+    }
+    Ok(())
+}
+
+/// Malformed lines, and the first place that is malformed.
+const MALFORMED: [(&str, &str); 41] = [
+    ("1", "head"),
+    ("1 ", "head"),
+    (" 1 1 open client=app", "head"),
+    ("1  1 open client=app", "head"),
+    ("1\t1 open client=app", "head"),
+    ("01 1 open client=app", "head"),
+    ("1 00 open client=app", "head"),
+    ("+1 1 open client=app", "head"),
+    ("-1 1 open client=app", "head"),
+    ("1x 1 open client=app", "head"),
+    ("1 0x1 open client=app", "head"),
+    ("9007199254740992 1 open client=app", "head"),
+    ("1 18446744073709551616 open client=app", "head"),
+    ("1 100000000000000000001 open client=app", "head"),
+    ("1 1", "verb"),
+    ("1 1 ", "verb"),
+    ("1 1  open client=app", "verb"),
+    ("1 1 Open client=app", "verb"),
+    ("1 1 post execution=form", "verb"),
+    ("1 1 sweep", "verb"),
+    ("1 1 open", "client"),
+    ("1 1 open  client=app", "client"),
+    ("1 1 open client=zip", "client"),
+    ("1 1 open client=App", "client"),
+    ("1 1 open client=app%ff", "client"),
+    ("1 1 open client=app&client=app", "client"),
+    ("1 1 open root=&acr=", "client"),
+    ("1 1 open client=app&root=&acr=", "acr"),
+    ("1 1 open client=app&acr=a&acr=a", "acr"),
+    ("1 1 open client=app&root=x", "root"),
+    ("1 1 user-add", "name"),
+    ("1 1 user-add password=p&roles=r", "name"),
+    ("1 1 user-add name=", "name"),
+    ("1 1 user-add name=a+b", "name"),
+    ("1 1 user-add name=%ff", "name"),
+    ("1 1 user-add name=ann&name=bob", "name"),
+    (
+        "1 1 user-add name=aaaaaaaaaaaaaaaaaaaaaaaaaaaaaaaaaaaaaaaaaaaaaaaaaaaaaaaaaaaaaaaaa",
+        "name",
+    ),
+    (
+        "1 1 user-add actions=&roles=&otp=&password=&name=ann",
+        "password",
+    ),
+    ("1 1 user-add actions=&roles=&otp=&name=ann", "otp"),
+    ("1 1 user-add actions=&roles=&name=ann", "roles"),
+    ("1 1 user-add actions=&name=ann", "actions"),
+];
+
+#[test]
+fn malformed_lines_name_their_first_place(rt: HostRuntime) -> Result<(), Fail> {
+    for (line, place) in MALFORMED {
+        let text = format!(in rt.alloc(); "refused 1 BadForm at={place}\n")?;
+        assert_eq!(rt;
+            text_of(&rt, rt.alloc(), line.as_bytes())?.as_slice(),
+            text.as_bytes(),
+            "{line}"
+        );
+    }
+    Ok(())
+}
+
+/// A front that is filled with so many bytes, and a newline.
+fn filled(alloc: Global, front: &[u8], len: usize) -> Result<Vec<u8>, Memory> {
+    let mut line = Vec::from_slice(alloc, front)?;
+    for _ in front.len()..len {
+        line.push(b'x')?;
+    }
+    line.push(b'\n')?;
+    Ok(line)
+}
+
+#[test]
+fn long_lines_have_no_head(rt: HostRuntime) -> Result<(), Fail> {
+    let front = b"1 1 user-add name=ann&x=".as_slice();
+    let cases = [
+        (
+            filled(rt.alloc(), front, 131_072)?,
+            "told user name=ann id=1\n",
+        ),
+        (
+            filled(rt.alloc(), front, 131_073)?,
+            "refused 1 BadForm at=head\n",
+        ),
+        (
+            filled(rt.alloc(), front, 300_000)?,
+            "refused 1 BadForm at=head\n",
+        ),
+        (filled(rt.alloc(), b"#", 300_000)?, ""),
+    ];
+    for (script, text) in &cases {
+        assert_eq!(rt;
+            text_of(&rt, rt.alloc(), script.as_slice())?.as_slice(),
+            text.as_bytes()
+        );
+    }
+    Ok(())
+}
+
+/// Words outside the grammar.
+const OUTSIDE: [&[&str]; 5] = [
+    &[],
+    &["replay", "--bogus"],
+    &["replay", "replay"],
+    &["Replay"],
+    &["--replay"],
+];
+
+#[test]
+fn words_outside_the_grammar_read_nothing(rt: HostRuntime) -> Result<(), Fail> {
+    for words in OUTSIDE {
+        let run = run_on(rt.alloc(), words, b"x\n", &[1], &[])?;
+        assert_eq!(rt; run.status, 2);
+        assert_eq!(rt; run.text.as_slice(), b"error 2 usage\n".as_slice());
+        let run = run_on(rt.alloc(), words, b"x\n", &[], &[1])?;
+        assert_eq!(rt; run.status, 5);
+        assert!(rt; run.text.is_empty());
+    }
+    Ok(())
+}
+
+/// Three lines, the last of which has no newline.
+const THREE: &[u8] = b"1 1 user-add name=ann\nx\n2 2 user-add name=ann";
+
+const USER: &str = "told user name=ann id=1\n";
+
+const USER_HEAD: &str = "told user name=ann id=1\nrefused 1 BadForm at=head\n";
+
+const USER_HEAD_TAKEN: &str =
+    "told user name=ann id=1\nrefused 1 BadForm at=head\nrefused 2 AdminRefused rule=UserTaken\n";
+
+const USER_HEAD_READ: &str = "told user name=ann id=1\nrefused 1 BadForm at=head\nerror 4 read\n";
+
+/// The reads and the writes that fail, the status, and what is written. One read takes the whole
+/// script, and the next finds its end.
+const FAULTS: [(&[u64], &[u64], u8, &str); 8] = [
+    (&[1], &[], 4, "error 4 read\n"),
+    (&[2], &[], 4, USER_HEAD_READ),
+    (&[3], &[], 0, USER_HEAD_TAKEN),
+    (&[], &[1], 5, ""),
+    (&[], &[2], 5, USER),
+    (&[], &[3], 5, USER_HEAD),
+    (&[], &[4], 0, USER_HEAD_TAKEN),
+    (&[2], &[3], 5, USER_HEAD),
+];
+
+#[test]
+fn faults_end_the_run_where_they_are_met(rt: HostRuntime) -> Result<(), Fail> {
+    for (reads, puts, status, text) in FAULTS {
+        let run = run_on(rt.alloc(), &["replay"], THREE, reads, puts)?;
+        assert_eq!(rt; run.status, status);
+        assert_eq!(rt; run.text.as_slice(), text.as_bytes());
+    }
+    Ok(())
+}
