@@ -99,7 +99,7 @@ const MALFORMED: [(&str, &str); 41] = [
     ("1 1 ", "verb"),
     ("1 1  open client=app", "verb"),
     ("1 1 Open client=app", "verb"),
-    ("1 1 post execution=form", "verb"),
+    ("1 1 page execution=form", "verb"),
     ("1 1 sweep", "verb"),
     ("1 1 open", "client"),
     ("1 1 open  client=app", "client"),
@@ -140,6 +140,164 @@ fn malformed_lines_name_their_first_place(rt: HostRuntime) -> Result<(), Fail> {
             "{line}"
         );
     }
+    Ok(())
+}
+
+/// Logins, and what is written for them: a whole one and its repeat; a wrong password, the same post
+/// again, an unknown name and an unknown tab; a user without a password, and tabs of other roots; two
+/// tabs.
+const LOGINS: [(&str, &str); 4] = [
+    (
+        "1000 100 user-add name=ann&password=pw1\n2000 200 open client=app\n3000 300 post root=0000000000000001.00000000000000c800000000000000c9&tab=0000000000000002.00000000000000ca00000000000000cb&code=0000000000000003.00000000000000cc00000000000000cd&execution=form&name=ann&password=pw1\n4000 400 post root=0000000000000001.00000000000000c800000000000000c9&tab=0000000000000002.00000000000000ca00000000000000cb&code=0000000000000003.00000000000000cc00000000000000cd&execution=form&name=ann&password=pw1\n",
+        "told user name=ann id=1\nroot=0000000000000001.00000000000000c800000000000000c9 tab=0000000000000002.00000000000000ca00000000000000cb form code=0000000000000003.00000000000000cc00000000000000cd asked=form:form\ndone session=0000000000000003.00000000000001320000000000000133 user=ann level=0\nrefused 11 Finished\n",
+    ),
+    (
+        "1000 100 user-add name=ann&password=pw1\n2000 200 open client=app\n3000 300 post root=0000000000000001.00000000000000c800000000000000c9&tab=0000000000000002.00000000000000ca00000000000000cb&code=0000000000000003.00000000000000cc00000000000000cd&execution=form&name=ann&password=bad\n3000 300 post root=0000000000000001.00000000000000c800000000000000c9&tab=0000000000000002.00000000000000ca00000000000000cb&code=0000000000000003.00000000000000cc00000000000000cd&execution=form&name=ann&password=bad\n5000 500 post root=0000000000000001.00000000000000c800000000000000c9&tab=0000000000000002.00000000000000ca00000000000000cb&code=0000000000000004.00000000000001300000000000000131&execution=form&name=zed&password=pw1\n5000 500 post root=0000000000000001.00000000000000c800000000000000c9&tab=0000000000000009.00000000000000000000000000000001&code=0000000000000005.00000000000001f800000000000001f9&execution=form&name=ann&password=pw1\n",
+        "told user name=ann id=1\nroot=0000000000000001.00000000000000c800000000000000c9 tab=0000000000000002.00000000000000ca00000000000000cb form code=0000000000000003.00000000000000cc00000000000000cd asked=form:form\nrefused 16 BadCredentials form code=0000000000000004.00000000000001300000000000000131 asked=form:form\nrefused 9 Stale current=0000000000000004.00000000000001300000000000000131\nrefused 16 BadCredentials form code=0000000000000005.00000000000001f800000000000001f9 asked=form:form\nrefused 7 UnknownTab\n",
+    ),
+    (
+        "1 1 user-add name=bob\n2 200 open client=app\n3 300 post root=0000000000000001.00000000000000c800000000000000c9&tab=0000000000000002.00000000000000ca00000000000000cb&code=0000000000000003.00000000000000cc00000000000000cd&execution=form&name=Bob&password=pw1\n4 400 post root=0000000000000001.00000000000000c800000000000000c9&tab=0000000000000002.00000000000000ca00000000000000cb&code=0000000000000003.00000000000000cc00000000000000cd&execution=form&name=ann&password=pw1\n5 500 post root=0000000000000009.0000000000000009000000000000000a&tab=0000000000000002.00000000000000ca00000000000000cb&code=0000000000000004.00000000000001300000000000000131&execution=form&name=ann&password=pw1\n6 600 post tab=0000000000000002.00000000000000ca00000000000000cb&code=0000000000000004.00000000000001300000000000000131&execution=form&name=bob&password=x\n7 700 post root=zip&tab=0000000000000002.00000000000000ca00000000000000cb&code=0000000000000004.00000000000001300000000000000131&execution=form&name=bob&password=x\n8 800 user-add name=Bob&password=y\n",
+        "told user name=bob id=1\nroot=0000000000000001.00000000000000c800000000000000c9 tab=0000000000000002.00000000000000ca00000000000000cb form code=0000000000000003.00000000000000cc00000000000000cd asked=form:form\nrefused 16 BadCredentials form code=0000000000000004.00000000000001300000000000000131 asked=form:form\nrefused 9 Stale current=0000000000000004.00000000000001300000000000000131\nrefused 7 UnknownTab\nrefused 7 UnknownTab\nrefused 7 UnknownTab\nrefused 2 AdminRefused rule=UserTaken\n",
+    ),
+    (
+        "1000 100 user-add name=ann&password=pw1\n2000 200 open client=app\n2500 250 open client=app\n3000 300 post root=0000000000000004.00000000000000fa00000000000000fb&tab=0000000000000005.00000000000000fc00000000000000fd&code=0000000000000006.00000000000000fe00000000000000ff&execution=form&name=ann&password=pw1\n3500 350 post root=0000000000000001.00000000000000c800000000000000c9&tab=0000000000000002.00000000000000ca00000000000000cb&code=0000000000000003.00000000000000cc00000000000000cd&execution=form&name=ann&password=pw1\n",
+        "told user name=ann id=1\nroot=0000000000000001.00000000000000c800000000000000c9 tab=0000000000000002.00000000000000ca00000000000000cb form code=0000000000000003.00000000000000cc00000000000000cd asked=form:form\nroot=0000000000000004.00000000000000fa00000000000000fb tab=0000000000000005.00000000000000fc00000000000000fd form code=0000000000000006.00000000000000fe00000000000000ff asked=form:form\ndone session=0000000000000003.00000000000001320000000000000133 user=ann level=0\ndone session=0000000000000004.00000000000001640000000000000165 user=ann level=0\n",
+    ),
+];
+
+#[test]
+fn logins_are_answered(rt: HostRuntime) -> Result<(), Fail> {
+    for (script, text) in LOGINS {
+        assert_eq!(rt;
+            text_of(&rt, rt.alloc(), script.as_bytes())?.as_slice(),
+            text.as_bytes()
+        );
+    }
+    Ok(())
+}
+
+/// Malformed posts and passwords, and the first place that is malformed.
+const MALFORMED_POSTS: [(&str, &str); 25] = [
+    ("1 1 post", "tab"),
+    (
+        "1 1 post root=0000000000000001.00000000000000c800000000000000c9&root=0000000000000001.00000000000000c800000000000000c9&tab=0000000000000002.00000000000000ca00000000000000cb&code=0000000000000003.00000000000000cc00000000000000cd&execution=form&name=ann&password=p",
+        "root",
+    ),
+    (
+        "1 1 post tab=x&code=0000000000000003.00000000000000cc00000000000000cd&execution=form&name=ann&password=p",
+        "tab",
+    ),
+    (
+        "1 1 post tab=0000000000000002.00000000000000ca00000000000000cb&tab=0000000000000002.00000000000000ca00000000000000cb&code=0000000000000003.00000000000000cc00000000000000cd&execution=form&name=ann&password=p",
+        "tab",
+    ),
+    (
+        "1 1 post tab=0000000000000002.00000000000000ca00000000000000cb&execution=form&name=ann&password=p",
+        "code",
+    ),
+    (
+        "1 1 post tab=0000000000000002.00000000000000ca00000000000000cb&code=0000000000000003.00000000000000CC00000000000000CD&execution=form&name=ann&password=p",
+        "code",
+    ),
+    (
+        "1 1 post tab=0000000000000002.00000000000000ca00000000000000cb&code=0000000000000003.00000000000000cc00000000000000cd",
+        "form",
+    ),
+    (
+        "1 1 post tab=0000000000000002.00000000000000ca00000000000000cb&code=0000000000000003.00000000000000cc00000000000000cd&execution=form&name=ann",
+        "form",
+    ),
+    (
+        "1 1 post tab=0000000000000002.00000000000000ca00000000000000cb&code=0000000000000003.00000000000000cc00000000000000cd&execution=form&password=p",
+        "form",
+    ),
+    (
+        "1 1 post tab=0000000000000002.00000000000000ca00000000000000cb&code=0000000000000003.00000000000000cc00000000000000cd&execution=form&value=1",
+        "form",
+    ),
+    (
+        "1 1 post tab=0000000000000002.00000000000000ca00000000000000cb&code=0000000000000003.00000000000000cc00000000000000cd&execution=form&name=ann&password=p&value=1",
+        "form",
+    ),
+    (
+        "1 1 post tab=0000000000000002.00000000000000ca00000000000000cb&code=0000000000000003.00000000000000cc00000000000000cd&execution=form&name=ann&password=p&action=terms",
+        "form",
+    ),
+    (
+        "1 1 post tab=0000000000000002.00000000000000ca00000000000000cb&code=0000000000000003.00000000000000cc00000000000000cd&action=terms",
+        "form",
+    ),
+    (
+        "1 1 post tab=0000000000000002.00000000000000ca00000000000000cb&code=0000000000000003.00000000000000cc00000000000000cd&execution=otp&name=a+b&password=",
+        "execution",
+    ),
+    (
+        "1 1 post tab=0000000000000002.00000000000000ca00000000000000cb&code=0000000000000003.00000000000000cc00000000000000cd&execution=form&name=ann&password=p&execution=form",
+        "execution",
+    ),
+    (
+        "1 1 post tab=0000000000000002.00000000000000ca00000000000000cb&code=0000000000000003.00000000000000cc00000000000000cd&execution=form&name=a+b&password=",
+        "name",
+    ),
+    (
+        "1 1 post tab=0000000000000002.00000000000000ca00000000000000cb&code=0000000000000003.00000000000000cc00000000000000cd&execution=form&name=ann&password=p&name=ann",
+        "name",
+    ),
+    (
+        "1 1 post tab=0000000000000002.00000000000000ca00000000000000cb&code=0000000000000003.00000000000000cc00000000000000cd&execution=form&name=ann&password=",
+        "password",
+    ),
+    (
+        "1 1 post tab=0000000000000002.00000000000000ca00000000000000cb&code=0000000000000003.00000000000000cc00000000000000cd&execution=form&name=ann&password=a%ffb",
+        "password",
+    ),
+    (
+        "1 1 post tab=0000000000000002.00000000000000ca00000000000000cb&code=0000000000000003.00000000000000cc00000000000000cd&execution=form&name=ann&password=%EF%BF%BD",
+        "password",
+    ),
+    (
+        "1 1 post tab=0000000000000002.00000000000000ca00000000000000cb&code=0000000000000003.00000000000000cc00000000000000cd&execution=form&name=ann&password=p&password=p",
+        "password",
+    ),
+    ("1 1 user-add name=ann&password=%ff", "password"),
+    ("1 1 user-add name=ann&password=p&password=p", "password"),
+    (
+        "1 1 user-add name=ann&password=ppppppppppppppppppppppppppppppppppppppppppppppppppppppppppppppppppppppppppppppppppppppppppppppppppppppppppppppppppppppppppppppppppppppppppppppppppppppppppppppppppppppppppppppppppppppppppppppppppppppppppppppppppppppppppppppppppppppppppppppppppppppppppppppppp",
+        "password",
+    ),
+    ("1 1 user-add name=ann&password=p&otp=", "otp"),
+];
+
+#[test]
+fn malformed_posts_name_their_first_place(rt: HostRuntime) -> Result<(), Fail> {
+    for (line, place) in MALFORMED_POSTS {
+        let text = format!(in rt.alloc(); "refused 1 BadForm at={place}\n")?;
+        assert_eq!(rt;
+            text_of(&rt, rt.alloc(), line.as_bytes())?.as_slice(),
+            text.as_bytes(),
+            "{line}"
+        );
+    }
+    Ok(())
+}
+
+/// A password of so many bytes.
+fn with_password(alloc: Global, len: usize) -> Result<Vec<u8>, Memory> {
+    filled(alloc, b"1 1 user-add name=ann&password=", 31 + len)
+}
+
+#[test]
+fn passwords_have_up_to_256_bytes(rt: HostRuntime) -> Result<(), Fail> {
+    let longest = with_password(rt.alloc(), 256)?;
+    let longer = with_password(rt.alloc(), 257)?;
+    assert_eq!(rt;
+        text_of(&rt, rt.alloc(), longest.as_slice())?.as_slice(),
+        b"told user name=ann id=1\n".as_slice()
+    );
+    assert_eq!(rt;
+        text_of(&rt, rt.alloc(), longer.as_slice())?.as_slice(),
+        b"refused 1 BadForm at=password\n".as_slice()
+    );
     Ok(())
 }
 
