@@ -1,3 +1,4 @@
 pub mod FoundLemmas
+pub mod PostLemmas
 pub mod Pushes
 pub mod SerialLemmas

@@ -16,6 +16,7 @@ use Rattle.facts.specs.declared.kind.Kind.TheVariants as kinds
 use Rattle.facts.specs.declared.passwords.UserPassword.{UserPassword}
 use Rattle.facts.specs.declared.reply.Next.{Next}
 use Rattle.facts.specs.declared.reply.Next.TheVariants as nexts
+use Rattle.facts.specs.declared.reply.What.{What}
 use Rattle.facts.specs.declared.reply.What.TheVariants as whats
 use Rattle.facts.specs.Accounts.{account_named}
 use Rattle.facts.specs.Secrets.{password_of}
@@ -135,3 +136,19 @@ due_in_tab chronicle tab code execution name finding moment words root =
 unfoldable pub due_post : List Fact → Option RootKey → TabKey → Code → List ℕ → List ℕ → Finding → ℕ → Words → Answer
 due_post chronicle root tab code execution name finding moment words =
     settled (due_in_tab chronicle tab code execution name finding moment words) (known_tab chronicle root tab)
+
+-- ---- what a post comes to
+
+-- the login completes
+abbrev pub is_done : What → Bool
+is_done (whats.Done session user level) = true
+is_done what = false
+
+-- the fact is evidence of this tab
+abbrev pub is_evidence : TabKey → Fact → Bool
+is_evidence tab (facts.Passed of execution user kind credential moment) = same_id of.0 tab.0
+is_evidence tab fact = false
+
+-- a post that is refused as finished
+abbrev pub refused_as_finished : TabKey → Answer
+refused_as_finished tab = record { reply = in_tab tab whats.Finished; added = [] }

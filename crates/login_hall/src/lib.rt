@@ -10,6 +10,7 @@ mod due;
 mod found;
 mod hall;
 mod ids;
+pub mod laws;
 mod new_tab;
 mod post;
 mod proposal;
