@@ -2,6 +2,7 @@ pub mod Adding
 pub mod Breaking
 pub mod Earlier
 pub mod Judging
+pub mod Keeping
 pub mod Living
 pub mod Looking
 pub mod Needing

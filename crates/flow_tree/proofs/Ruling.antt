@@ -55,15 +55,15 @@ fault_named rule es id is = ap (option_map (faulty rule)) (sym is)
 
 -- ---- what a tree keeps
 
-none_first : {X : Type 0} (o p : Option X) → option_or o p ≡ None → o ≡ None
+pub none_first : {X : Type 0} (o p : Option X) → option_or o p ≡ None → o ≡ None
 none_first None p h = refl
 none_first (Some x) p h = absurd cc
 
-none_second : {X : Type 0} (o p : Option X) → option_or o p ≡ None → p ≡ None
+pub none_second : {X : Type 0} (o p : Option X) → option_or o p ≡ None → p ≡ None
 none_second None p h = h
 none_second (Some x) p h = absurd cc
 
-unnamed : (o : Option (List ℕ)) (rule : TreeRule) → option_map (faulty rule) o ≡ None → o ≡ None
+pub unnamed : (o : Option (List ℕ)) (rule : TreeRule) → option_map (faulty rule) o ≡ None → o ≡ None
 unnamed None rule h = refl
 unnamed (Some id) rule h = absurd cc
 

@@ -1,13 +1,13 @@
-ghost use Rattle.std.specs.Prelude.{◌≡◌, ℕ, true, false, not, ◌&&◌, ◌||◌, List, [], ◌∷◌, ◌++◌};
+ghost use Rattle.std.specs.Prelude.{◌≡◌, ℕ, true, false, not, ◌&&◌, ◌||◌, List, [], ◌∷◌, ◌++◌, ◌≤◌, length, nat_le, None};
 ghost use Rattle.std.specs.List.{list_any, list_all};
 ghost use Rattle.flow_tree.specs.declared.exec.Exec.{Exec};
 ghost use Rattle.flow_tree.specs.declared.exec.Kind.{Kind};
 ghost use Rattle.flow_tree.specs.declared.exec.Requirement.TheVariants.{Required, Alternative, Conditional, Disabled};
 ghost use Rattle.flow_tree.specs.declared.exec.Body.TheVariants.{Auth, Sub};
-ghost use Rattle.flow_tree.specs.Faults.{is_condition};
+ghost use Rattle.flow_tree.specs.Faults.{is_condition, fault_of};
 ghost use Rattle.flow_tree.specs.Flow.{has, acts, holds, needs, flow_holds, flow_needs};
-ghost use Rattle.flow_tree.specs.Places.{shape_of};
-ghost use Rattle.flow_tree.specs.Words.{is_enabled_condition, is_offered};
+ghost use Rattle.flow_tree.specs.Places.{shape_of, places};
+ghost use Rattle.flow_tree.specs.Words.{is_enabled_condition, is_offered, are_apart, have_own_levels};
 
 /// A flow is satisfied where some execution acts and each that acts is satisfied, or where none
 /// acts and some enabled alternative is satisfied. An empty flow never is.
@@ -61,4 +61,14 @@ pub fn need_law()
         → e.body ≡ Sub es → needs t e ≡ flow_needs t es }
     ensures nothing { (t : List (List ℕ)) (es : List Exec) → flow_holds t es ≡ true
         → flow_needs t es ≡ [] }
+{}
+
+/// What a tree keeps: at most 64 executions, none deeper than 8, no id twice, and no level twice.
+pub fn tree_law()
+    ensures few { (es : List Exec) → fault_of es ≡ None → length (places es) ≤ 64 }
+    ensures shallow { (es : List Exec) → fault_of es ≡ None
+        → list_all (λ p. nat_le p.depth 8) (places es) ≡ true }
+    ensures apart { (es : List Exec) → fault_of es ≡ None → are_apart (places es) ≡ true }
+    ensures levels { (es : List Exec) → fault_of es ≡ None
+        → have_own_levels (places es) ≡ true }
 {}

@@ -22,7 +22,7 @@ mod verdict;
 
 pub use exec::{Body, Cond, Exec, Kind, Requirement};
 pub use fault::{TreeFault, TreeRule};
-pub use laws::{acting_law, flow_law, idle_law, need_law};
+pub use laws::{acting_law, flow_law, idle_law, need_law, tree_law};
 pub use live::LiveLevel;
 pub use tree::Tree;
 pub use truths::Truths;
