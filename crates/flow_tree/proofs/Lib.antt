@@ -1,0 +1,12 @@
+pub mod Adding
+pub mod Breaking
+pub mod Earlier
+pub mod Judging
+pub mod Keeping
+pub mod Living
+pub mod Looking
+pub mod Needing
+pub mod Placing
+pub mod Reaching
+pub mod Ruling
+pub mod Words
