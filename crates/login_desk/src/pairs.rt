@@ -15,7 +15,8 @@ pub struct Pair {
     pub value: Sequence<u8>,
 }
 
-/// The text that stands in a form, where a byte that is no part of UTF-8 is read as U+FFFD.
+/// The text that stands in a form. What isn't UTF-8 is read as U+FFFD, which no value may have: it
+/// is no byte of a name.
 fn decoded(alloc: Global, text: &[u8]) -> Result<Sequence<u8>, Memory>
     ensures { IfOk result (λ bytes. bytes ≡ utf8_lossy (decode text.now)) }
 {
