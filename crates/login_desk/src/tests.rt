@@ -281,15 +281,11 @@ fn malformed_posts_name_their_first_place(rt: HostRuntime) -> Result<(), Fail> {
     Ok(())
 }
 
-/// A password of so many bytes.
-fn with_password(alloc: Global, len: usize) -> Result<Vec<u8>, Memory> {
-    filled(alloc, b"1 1 user-add name=ann&password=", 31 + len)
-}
-
 #[test]
 fn passwords_have_up_to_256_bytes(rt: HostRuntime) -> Result<(), Fail> {
-    let longest = with_password(rt.alloc(), 256)?;
-    let longer = with_password(rt.alloc(), 257)?;
+    let front = b"1 1 user-add name=ann&password=".as_slice();
+    let longest = filled(rt.alloc(), front, 31 + 256)?;
+    let longer = filled(rt.alloc(), front, 31 + 257)?;
     assert_eq!(rt;
         text_of(&rt, rt.alloc(), longest.as_slice())?.as_slice(),
         b"told user name=ann id=1\n".as_slice()
