@@ -1,10 +1,10 @@
 -- What stands before an execution, by its three cases.
-use Rattle.std.proofs.Common.{◌≡◌, ℕ, ◌+◌, ◌<◌, Bool, true, false, ◌||◌, List, [], ◌∷◌, ◌++◌, length, get_or, refl, ap, sym, ◌∙◌, Bor}
-use Rattle.std.specs.List.{list_any, flat_map}
+use Rattle.std.proofs.Common.{◌≡◌, ℕ, ◌+◌, ◌<◌, Bool, true, false, not, ◌&&◌, ◌||◌, List, [], ◌∷◌, ◌++◌, length, get_or, refl, ap, sym, ◌∙◌, Bor}
+use Rattle.std.specs.List.{list_all, list_any, flat_map}
 use Rattle.std.specs.Str.{bytes_eq}
 use Rattle.std.proofs.lemmas.List.Folds.{list_any_at}
 use Rattle.flow_tree.specs.declared.before.Sought.{Sought}
-use Rattle.flow_tree.specs.declared.before.Sought.TheVariants.{Id, Level, Kind, Condition}
+use Rattle.flow_tree.specs.declared.before.Sought.TheVariants.{Id, Level, Kind, Condition, OutOfRange}
 use Rattle.flow_tree.specs.declared.exec.Exec.{Exec}
 use Rattle.flow_tree.specs.declared.exec.Requirement.{Requirement}
 use Rattle.flow_tree.specs.declared.before.Before.{Before}
@@ -63,7 +63,17 @@ sought_flow (Id name) d id r = or_false (bytes_eq id name.now)
 sought_flow (Level level) d id r = refl
 sought_flow (Kind kind) d id r = refl
 sought_flow Condition d id r = refl
+sought_flow OutOfRange d id r = refl
 
 -- one of the executions settles it
 pub places_found : (p : Place → Bool) (d : ℕ) (es : List Exec) (i : ℕ) (e : Exec) → i < length es → e ≡ get_or es i e → list_any p (placed_at d e) ≡ true → list_any p (places_at d es) ≡ true
 places_found p d es i e lt at here = any_concat p (placed_at d) es ∙ list_any_at (λ x. list_any p (placed_at d x)) es i e lt (ap (λ x. list_any p (placed_at d x)) (sym at) ∙ here)
+
+-- none fails a test exactly where all pass it
+pub all_pass : {X : Type 0} (p : X → Bool) (xs : List X) → not (list_any (λ x. not (p x)) xs) ≡ list_all p xs
+all_pass p [] = refl
+all_pass p (x ∷ xs) = either (p x) (list_any (λ y. not (p y)) xs) ∙ ap (λ b. p x && b) (all_pass p xs)
+  where
+    either : (a b : Bool) → not (not a || b) ≡ (a && not b)
+    either true b = refl
+    either false b = refl

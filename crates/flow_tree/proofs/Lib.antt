@@ -3,6 +3,7 @@ pub mod Breaking
 pub mod Earlier
 pub mod Judging
 pub mod Keeping
+pub mod Leaving
 pub mod Living
 pub mod Looking
 pub mod Needing

@@ -1,7 +1,9 @@
 pub mod Faults
 pub mod Flow
+pub mod Leaves
 pub mod Levels
 pub mod Places
+pub mod Ranges
 pub mod Standing
 pub mod Tally
 pub mod Words

@@ -1,13 +1,14 @@
 -- What stands before an execution.
-use Rattle.std.specs.Prelude.{◌≡◌, ℕ, Bool, true, false, ◌+◌, ◌<◌, is_some, None, length, take, List, [], ◌∷◌, ◌++◌}
+use Rattle.std.specs.Prelude.{◌≡◌, ℕ, Bool, true, false, not, ◌+◌, ◌<◌, is_some, None, length, take, List, [], ◌∷◌, ◌++◌}
 use Rattle.std.specs.Str.{bytes_eq}
 use Rattle.flow_tree.specs.Places.{Place, Flow, places_at, is_of_kind}
 use Rattle.flow_tree.specs.Faults.{is_of_level, is_condition, first_breaking}
+use Rattle.flow_tree.specs.Ranges.{is_level_in_range}
 use Rattle.flow_tree.specs.declared.exec.Exec.{Exec}
 use Rattle.flow_tree.specs.declared.fault.TreeRule.{TreeRule}
 use Rattle.flow_tree.specs.declared.before.Before.{Before, Nothing, Flow', All'}
 use Rattle.flow_tree.specs.declared.before.Sought.{Sought}
-use Rattle.flow_tree.specs.declared.before.Sought.TheVariants.{Id, Level, Kind, Condition}
+use Rattle.flow_tree.specs.declared.before.Sought.TheVariants.{Id, Level, Kind, Condition, OutOfRange}
 
 -- the depth at which the next one stands
 unfoldable pub depth_of : Before → ℕ
@@ -26,12 +27,14 @@ is_sought (Id id) p = bytes_eq p.id id.now
 is_sought (Level level) p = is_of_level level p.shape
 is_sought (Kind kind) p = is_of_kind kind p.shape
 is_sought Condition p = is_condition p.shape
+is_sought OutOfRange p = not (is_level_in_range p.shape)
 
 abbrev pub is_named : Sought → List ℕ → Bool
 is_named (Id id) name = bytes_eq name id.now
 is_named (Level level) name = false
 is_named (Kind kind) name = false
 is_named Condition name = false
+is_named OutOfRange name = false
 
 -- the first i have none that breaks the rule, and the first i + 1 have one
 pub record IsFirstBroken (rule : TreeRule) (before : Before) (es : List Exec) (i : ℕ) : Type 0 where

@@ -6,6 +6,7 @@ ghost use Rattle.flow_tree.specs.declared.exec.Body.{out-Body};
 ghost use Rattle.flow_tree.specs.Standing.{depth_of, before_of, is_sought, is_named};
 
 use crate::exec::{Body, Exec, Kind, Requirement};
+use crate::range::is_level_in_range;
 use login_base::Name;
 
 /// What stands before an execution in document order.
@@ -36,6 +37,8 @@ pub enum Sought<'a> {
     Kind(Kind),
     /// Any condition.
     Condition,
+    /// A condition of a level that is out of range, or has an age that is.
+    OutOfRange,
 }
 
 impl Before<'_> {
@@ -93,6 +96,7 @@ fn is_named(id: &Name, sought: &Sought<'_>) -> bool
         Sought::Level(_) => false,
         Sought::Kind(_) => false,
         Sought::Condition => false,
+        Sought::OutOfRange => false,
     }
 }
 
@@ -131,6 +135,7 @@ fn is_itself(exec: &Exec, sought: &Sought<'_>) -> bool
         Sought::Level(level) => is_of_level(exec, *level),
         Sought::Kind(kind) => is_of_kind(exec, *kind),
         Sought::Condition => is_condition(exec),
+        Sought::OutOfRange => !is_level_in_range(exec),
     }
 }
 

@@ -1,6 +1,7 @@
 ghost use Rattle.std.specs.Prelude.{◌≡◌, IfOk};
 
 use crate::exec::{Body, Cond, Exec};
+use crate::leaves::Leaf;
 use crate::truths::Truths;
 use login_base::{Duplicate, Memory};
 use sqlite_items::Items;
@@ -32,6 +33,15 @@ impl Duplicate for Truths {
     fn duplicate(&self, alloc: Global) -> Result<Truths, Memory> {
         Ok(Truths {
             held: self.held.duplicate(alloc)?,
+        })
+    }
+}
+
+impl Duplicate for Leaf {
+    fn duplicate(&self, alloc: Global) -> Result<Leaf, Memory> {
+        Ok(Leaf {
+            id: self.id.duplicate(alloc)?,
+            kind: self.kind,
         })
     }
 }

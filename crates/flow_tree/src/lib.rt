@@ -10,9 +10,11 @@ mod exec;
 mod fault;
 mod judge;
 mod laws;
+mod leaves;
 mod live;
 mod lookup;
 mod needs;
+mod range;
 mod reach;
 mod same;
 mod search;
@@ -23,6 +25,10 @@ mod verdict;
 pub use exec::{Body, Cond, Exec, Kind, Requirement};
 pub use fault::{TreeFault, TreeRule};
 pub use laws::{acting_law, flow_law, idle_law, need_law, tree_law};
+pub use leaves::Leaf;
 pub use live::LiveLevel;
 pub use tree::Tree;
 pub use truths::Truths;
+
+#[cfg(test)]
+mod tests;

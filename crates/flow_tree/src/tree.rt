@@ -1,15 +1,18 @@
 ghost use Rattle.std.specs.Prelude.{◌≡◌, ◌↔◌, IsTrue, None, Some, IfOk, IfErr, OnOk, MatchOption, length};
-ghost use Rattle.std.specs.List.{list_any};
+ghost use Rattle.std.specs.List.{list_all, list_any};
 ghost use Rattle.flow_tree.specs.Faults.{fault_of, broken, IsFirstRule, is_condition};
 ghost use Rattle.flow_tree.specs.Flow.{flow_holds, flow_needs, level_holds};
+ghost use Rattle.flow_tree.specs.Leaves.{leaves_of};
 ghost use Rattle.flow_tree.specs.Levels.{live_levels, live_age};
 ghost use Rattle.flow_tree.specs.Places.{places, is_of_kind, kind_among};
+ghost use Rattle.flow_tree.specs.Ranges.{is_level_in_range};
 
 use crate::before::{Before, Sought, is_among, left_after};
 use crate::copy::copy_execs;
 use crate::exec::{Exec, Kind, Requirement};
 use crate::fault::{TreeFault, TreeRule};
 use crate::judge::tally;
+use crate::leaves::{Leaf, add_leaves};
 use crate::live::{LiveLevel, add_levels, first_age};
 use crate::lookup::kind_among;
 use crate::needs::add_flow_needs;
@@ -136,6 +139,15 @@ impl Tree {
         Ok(levels)
     }
 
+    /// The authenticators in document order, those in subflows and disabled ones too.
+    pub fn leaves(&self) -> Result<Sequence<Leaf>, Memory>
+        ensures ok { IfOk result (λ leaves. leaves ≡ leaves_of self.now) }
+    {
+        let mut leaves = Sequence::new(self.alloc);
+        add_leaves(self.alloc, self.execs.as_slice(), &mut leaves)?;
+        Ok(leaves)
+    }
+
     /// The kind of the authenticator of this id, or none where there is none.
     pub fn kind_of(&self, id: &Name) -> Option<Kind>
         ensures value { result ≡ kind_among id.now (places self.now) }
@@ -155,6 +167,14 @@ impl Tree {
         ensures value { result ≡ list_any (λ p. is_condition p.shape) (places self.now) }
     {
         is_among(self.execs.as_slice(), &Sought::Condition)
+    }
+
+    /// Whether each condition of a level, enabled or not, has a level of 1 to 1,000 and an age of
+    /// at most 31,536,000 seconds.
+    pub fn has_levels_in_range(&self) -> bool
+        ensures value { result ≡ list_all (λ p. is_level_in_range p.shape) (places self.now) }
+    {
+        !is_among(self.execs.as_slice(), &Sought::OutOfRange)
     }
 
     /// Whether the trees are equal.
