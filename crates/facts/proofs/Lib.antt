@@ -1,3 +1,7 @@
 pub mod PasswordLemmas
 pub mod PlacesLemmas
+pub mod RealmLemmas
 pub mod TextLemmas
+pub mod InForce
+pub mod RealmRules
+pub mod SerialLemmas

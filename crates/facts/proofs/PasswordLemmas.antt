@@ -1,6 +1,5 @@
 -- An ask that does nothing with a password has none.
-use Rattle.std.proofs.Common.{◌≡◌, ℕ, true, List, [], Some, None, refl}
-use Rattle.std.specs.Prelude.{Option}
+use Rattle.std.proofs.Common.{◌≡◌, true, [], Some, None, refl}
 use Rattle.facts.specs.declared.admin.AdminVerb.TheVariants as verbs
 use Rattle.facts.specs.declared.ask.Ask.{Ask}
 use Rattle.facts.specs.declared.ask.Ask.TheVariants as asks
@@ -25,6 +24,7 @@ plain_is_solved (asks.Post root tab code forms.VerifyEmail) h = refl
 plain_is_solved (asks.Verify key) h = refl
 plain_is_solved (asks.Reset key password) h = absurd cc
 plain_is_solved (asks.Logout root) h = refl
+plain_is_solved (asks.Admin access (verbs.RealmPut realm)) h = refl
 plain_is_solved (asks.Admin access (verbs.UserAdd name (Some password) otp roles actions)) h = absurd cc
 plain_is_solved (asks.Admin access (verbs.UserAdd name None otp roles actions)) h = refl
 plain_is_solved (asks.Admin access (verbs.Roles name roles)) h = refl
@@ -56,6 +56,7 @@ emptied_ask (asks.Post root tab code forms.VerifyEmail) = (refl, refl)
 emptied_ask (asks.Verify key) = (refl, refl)
 emptied_ask (asks.Reset key password) = (refl, refl)
 emptied_ask (asks.Logout root) = (refl, refl)
+emptied_ask (asks.Admin access (verbs.RealmPut realm)) = (refl, refl)
 emptied_ask (asks.Admin access (verbs.UserAdd name (Some password) otp roles actions)) = (refl, refl)
 emptied_ask (asks.Admin access (verbs.UserAdd name None otp roles actions)) = (refl, refl)
 emptied_ask (asks.Admin access (verbs.Roles name roles)) = (refl, refl)
@@ -87,6 +88,7 @@ emptied_plain (asks.Post root tab code forms.VerifyEmail) h = refl
 emptied_plain (asks.Verify key) h = refl
 emptied_plain (asks.Reset key password) h = absurd cc
 emptied_plain (asks.Logout root) h = refl
+emptied_plain (asks.Admin access (verbs.RealmPut realm)) h = refl
 emptied_plain (asks.Admin access (verbs.UserAdd name (Some password) otp roles actions)) h = absurd cc
 emptied_plain (asks.Admin access (verbs.UserAdd name None otp roles actions)) h = refl
 emptied_plain (asks.Admin access (verbs.Roles name roles)) h = refl

@@ -1,5 +1,5 @@
 -- Texts that grow at their end.
-use Rattle.std.proofs.Common.{◌≡◌, ℕ, List, ◌++◌, sym, ap, ◌∙◌, append_assoc, OnOk, Result, Ok, Err}
+use Rattle.std.proofs.Common.{◌≡◌, ℕ, List, ◌++◌, sym, ap, ◌∙◌, append_assoc}
 
 -- two labels with their values, one after the other
 pub two_fields : (out mid end label value other_label other : List ℕ) → mid ≡ out ++ (label ++ value) → end ≡ mid ++ (other_label ++ other) → end ≡ out ++ (((label ++ value) ++ other_label) ++ other)

@@ -1,5 +1,5 @@
 -- The accounts.
-use Rattle.std.specs.Prelude.{ℕ, List, Option, Some, None, if◌then◌else◌}
+use Rattle.std.specs.Prelude.{ℕ, List, Option, Some, None, ◌==◌, if◌then◌else◌}
 use Rattle.std.specs.Str.{bytes_eq}
 use Rattle.login_base.specs.declared.id.UserId.{UserId}
 use Rattle.facts.specs.declared.fact.Fact.{Fact}
@@ -14,3 +14,12 @@ put_as name fact = None
 -- the account of this name
 unfoldable pub account_named : List ℕ → List Fact → Option UserId
 account_named name facts = last_of (put_as name) facts
+
+-- the name that a fact gives this user
+abbrev pub name_put : UserId → Fact → Option (List ℕ)
+name_put user (facts.UserPut of name roles) = if of.0 == user.0 then Some name else None
+name_put user fact = None
+
+-- the name of a user
+unfoldable pub name_of : UserId → List Fact → Option (List ℕ)
+name_of user facts = last_of (name_put user) facts

@@ -1,4 +1,5 @@
 pub mod Accounts
+pub mod Evidence
 pub mod Kept
 pub mod Moments
 pub mod Padding
@@ -6,6 +7,10 @@ pub mod PasswordHash
 pub mod Passwords
 pub mod Places
 pub mod Ranges
+pub mod Realm
+pub mod RealmBuilt
+pub mod RealmBuiltin
+pub mod Realms
 pub mod Secrets
 pub mod Serials
 pub mod Solved

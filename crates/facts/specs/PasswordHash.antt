@@ -1,5 +1,5 @@
 -- A password as it is kept.
-use Rattle.std.specs.Prelude.{◌≡◌, ℕ, ◌≤◌, Bool, not, ◌&&◌, ◌||◌, ◌==◌, nat_le, List, length, take}
+use Rattle.std.specs.Prelude.{◌≡◌, ℕ, ◌≤◌, Bool, ◌&&◌, nat_le, List, length, take}
 use Rattle.facts.specs.Padding.{padded}
 
 pub record HashedPassword : Type 0 where

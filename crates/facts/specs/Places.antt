@@ -15,3 +15,8 @@ last_of pick (f ∷ fs) = or_else (last_of pick fs) (pick f)
 abbrev pub after_last : {F A : Type 0} → (F → Option A) → List F → List F
 after_last pick [] = []
 after_last pick (f ∷ fs) = if is_some (last_of pick fs) then after_last pick fs else (if is_some (pick f) then fs else f ∷ fs)
+
+-- the first value that is picked
+abbrev pub first_of : {F A : Type 0} → (F → Option A) → List F → Option A
+first_of pick [] = None
+first_of pick (f ∷ fs) = or_else (pick f) (first_of pick fs)

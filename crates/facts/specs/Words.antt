@@ -7,8 +7,8 @@ use Rattle.login_base.specs.declared.id.RootKey.{RootKey}
 use Rattle.login_base.specs.declared.id.TabKey.{TabKey}
 use Rattle.facts.specs.declared.action.Action.{Action}
 use Rattle.facts.specs.declared.action.Action.TheVariants as actions
-use Rattle.facts.specs.declared.kind.Kind.{Kind}
-use Rattle.facts.specs.declared.kind.Kind.TheVariants as kinds
+use Rattle.flow_tree.specs.declared.exec.Kind.{Kind}
+use Rattle.flow_tree.specs.declared.exec.Kind.TheVariants as kinds
 use Rattle.facts.specs.declared.rule.Rule.{Rule}
 use Rattle.facts.specs.declared.rule.Rule.TheVariants as rules
 use Rattle.facts.specs.declared.reply.Need.{Need}

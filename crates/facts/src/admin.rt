@@ -2,7 +2,9 @@ ghost use Rattle.std.specs.Prelude.{◌≡◌, Some, None, if◌then◌else◌};
 ghost use Rattle.facts.specs.Ranges.{is_otp_key, is_life};
 
 use crate::action::Action;
-use login_base::{Name, Sequence, SessionId};
+use crate::realm::Realm;
+use login_base::{Duplicate, Memory, Name, Sequence, SessionId};
+use std::alloc::Global;
 use std::marker::Model;
 
 /// The key of a TOTP generator (RFC 6238): 10 to 64 bytes.
@@ -38,6 +40,14 @@ impl OtpSecret {
         ensures key { result.now ≡ self.now }
     {
         self.key.as_slice()
+    }
+}
+
+impl Duplicate for OtpSecret {
+    fn duplicate(&self, alloc: Global) -> Result<OtpSecret, Memory> {
+        Ok(OtpSecret {
+            key: self.key.duplicate(alloc)?,
+        })
     }
 }
 
@@ -89,6 +99,10 @@ pub enum TokenAction {
 /// What an administrator asks.
 #[derive(Debug, Drop)]
 pub enum AdminVerb {
+    /// Puts a realm in the place of the one before, or none where the text was no realm.
+    RealmPut {
+        realm: Option<Realm>,
+    },
     UserAdd {
         name: Name,
         password: Option<Sequence<u8>>,

@@ -1,6 +1,11 @@
 ghost use Rattle.std.specs.Prelude.{◌≡◌, ◌+◌, ◌<◌, [], ◌++◌, length, Some, IfOk, OnOk, OnErr, slice_get};
+ghost use Rattle.facts.specs.Realms.{last_version};
+ghost use Rattle.facts.specs.Serials.{last_tab_serial, last_stored_serial};
 
 use crate::fact::Fact;
+use crate::realms::Version;
+use crate::scan::fold_in;
+use crate::serials::{StoredSerial, TabSerial};
 use login_base::{Duplicate, Memory, Steps};
 use std::alloc::Global;
 use std::marker::Model;
@@ -12,17 +17,26 @@ pub struct Chronicle {
     alloc: Global,
     list: Vec<Fact>,
     waiting: Vec<Fact>,
+    /// The last used serials of both counters.
+    tab_serial: u64,
+    stored_serial: u64,
+    /// The version of the last realm.
+    version: u64,
 }
 
 impl Model for Chronicle {
     ghost use Rattle.std.specs.Prelude.{◌≤◌, ◌+◌, vec_len, vec_capacity};
-    ghost use Rattle.facts.specs.Kept.{Kept};
+    ghost use Rattle.std.specs.Coded.{codes};
+    ghost use Rattle.flow_tree.specs.contracts.exec.Exec as exec;
+    ghost use Rattle.facts.specs.Kept.{Kept, IsCounted};
 
     ghost Value = { Kept };
 
+    ghost coded = { Prim.hlevel (codes, exec.the_row.coded) };
+
     ghost view = { λ c. record { list = c.list.items; waiting = c.waiting.items } };
 
-    ghost invariant = { λ c. vec_len c.list + vec_len c.waiting ≤ vec_capacity c.list };
+    ghost invariant = { λ c. (vec_len c.list + vec_len c.waiting ≤ vec_capacity c.list) × IsCounted c.list.items c.tab_serial c.stored_serial c.version };
 }
 
 /// Copies of the facts.
@@ -38,6 +52,7 @@ fn copies(alloc: Global, facts: &[Fact]) -> Result<Vec<Fact>, Memory>
 
 impl Chronicle {
     /// An empty list, which takes no memory.
+    #[tactic(auto, unfolding(crate::specs::Serials::last_tab_serial, crate::specs::Serials::last_stored_serial, crate::specs::Realms::last_version))]
     pub fn make(alloc: Global) -> Chronicle
         ensures list { result.list ≡ [] }
         ensures waiting { result.waiting ≡ [] }
@@ -46,6 +61,9 @@ impl Chronicle {
             alloc,
             list: Vec::new(alloc),
             waiting: Vec::new(alloc),
+            tab_serial: 0,
+            stored_serial: 0,
+            version: 0,
         }
     }
 
@@ -65,6 +83,27 @@ impl Chronicle {
         &self.list[index]
     }
 
+    /// The last used serial of the counter of roots, tabs and codes.
+    pub fn last_tab_serial(&self) -> u64
+        ensures value { result ≡ last_tab_serial self.now.list }
+    {
+        self.tab_serial
+    }
+
+    /// The last used serial of the counter of users, secrets, sessions and tokens.
+    pub fn last_stored_serial(&self) -> u64
+        ensures value { result ≡ last_stored_serial self.now.list }
+    {
+        self.stored_serial
+    }
+
+    /// The version of the last realm that was put, 0 where there is none.
+    pub fn last_version(&self) -> u64
+        ensures value { result ≡ last_version self.now.list }
+    {
+        self.version
+    }
+
     /// Copies the facts to those that wait, in the place of what waited, and makes room for them.
     pub fn reserve(&mut self, facts: &[Fact]) -> Result<(), Memory>
         ensures list { self.new.list ≡ self.old.list }
@@ -78,10 +117,15 @@ impl Chronicle {
     }
 
     /// Moves the facts that wait to the end of the list. It takes no memory.
+    #[tactic(auto, using(crate::proofs::SerialLemmas::last_tab_serial_more, crate::proofs::SerialLemmas::last_stored_serial_more, crate::proofs::InForce::last_version_more))]
     pub fn add(&mut self)
         ensures list { self.new.list ≡ self.old.list ++ self.old.waiting }
         ensures waiting { self.new.waiting ≡ [] }
     {
+        let waiting = self.waiting.as_slice();
+        self.tab_serial = fold_in(waiting, &TabSerial, self.tab_serial);
+        self.stored_serial = fold_in(waiting, &StoredSerial, self.stored_serial);
+        self.version = fold_in(waiting, &Version, self.version);
         let Ok(()) = self.list.append(&mut self.waiting) else {
             unreachable!()
         };

@@ -1,6 +1,7 @@
 use crate::action::Action;
-use crate::kind::Kind;
+use crate::realm::Realm;
 use crate::secret::{Secret, SecretKind};
+use flow_tree::Kind;
 use lockout::Standing;
 use login_base::{
     Code, Duplicate, Memory, Name, RootKey, Sequence, SessionId, TabKey, TokenKey, UserId,
@@ -10,6 +11,11 @@ use std::alloc::Global;
 /// One thing that happened. Moments are milliseconds; serials and ids are those of the ask.
 #[derive(Debug, Drop)]
 pub enum Fact {
+    /// From now on the realm is this one, with this version.
+    RealmPut {
+        version: u64,
+        realm: Realm,
+    },
     /// The account stands so from now on.
     UserPut {
         user: UserId,
@@ -142,6 +148,10 @@ pub enum Fact {
 impl Duplicate for Fact {
     fn duplicate(&self, alloc: Global) -> Result<Fact, Memory> {
         Ok(match self {
+            Fact::RealmPut { version, realm } => Fact::RealmPut {
+                version: *version,
+                realm: realm.duplicate(alloc)?,
+            },
             Fact::UserPut { user, name, roles } => Fact::UserPut {
                 user: *user,
                 name: name.duplicate(alloc)?,

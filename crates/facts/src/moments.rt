@@ -1,8 +1,8 @@
 ghost use Rattle.std.specs.Prelude.{◌≡◌};
 ghost use Rattle.facts.specs.Moments.{last_used_moment};
 
-use crate::chronicle::Chronicle;
 use crate::fact::Fact;
+use crate::facts::Facts;
 use crate::scan::{Pick, last_by};
 use login_base::Steps;
 use std::sync::ledger::Ledger;
@@ -28,8 +28,8 @@ impl Pick for UsedMoment {
 
 /// The used moment of the last mark, 0 where there is none.
 #[tactic(auto, unfolding(crate::specs::Moments::last_used_moment))]
-pub fn last_used_moment<L: Ledger>(chronicle: &Chronicle, steps: &mut Steps<L>) -> u64
-    ensures value { result ≡ last_used_moment chronicle.now.list }
+pub fn last_used_moment<L: Ledger>(facts: &Facts<'_>, steps: &mut Steps<L>) -> u64
+    ensures value { result ≡ last_used_moment facts.now }
 {
-    last_by(chronicle, &UsedMoment, steps).unwrap_or(0)
+    last_by(facts, &UsedMoment, steps).unwrap_or(0)
 }

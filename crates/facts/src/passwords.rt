@@ -1,8 +1,8 @@
 ghost use Rattle.std.specs.Prelude.{◌≡◌};
 ghost use Rattle.facts.specs.Secrets.{kept_password, password_of};
 
-use crate::chronicle::Chronicle;
 use crate::fact::Fact;
+use crate::facts::Facts;
 use crate::password_hash::PasswordHash;
 use crate::scan::{Pick, last_by};
 use crate::secret::{Secret, SecretKind};
@@ -58,13 +58,13 @@ impl Pick for PasswordSet {
 /// The password that a user has.
 #[tactic(auto, unfolding(crate::specs::Secrets::password_of))]
 pub fn password_of<L: Ledger>(
-    chronicle: &Chronicle,
+    facts: &Facts<'_>,
     user: UserId,
     steps: &mut Steps<L>,
 ) -> Option<UserPassword>
-    ensures value { result ≡ password_of user chronicle.now.list }
+    ensures value { result ≡ password_of user facts.now }
 {
-    match last_by(chronicle, &PasswordSet { user }, steps) {
+    match last_by(facts, &PasswordSet { user }, steps) {
         Some(kept) => kept,
         None => None,
     }

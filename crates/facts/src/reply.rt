@@ -1,6 +1,6 @@
 use crate::action::Action;
-use crate::kind::Kind;
 use crate::rule::Rule;
+use flow_tree::Kind;
 use login_base::{Code, Duplicate, Memory, Name, RootKey, Sequence, SessionId, TabKey, UserId};
 use std::alloc::Global;
 

@@ -21,10 +21,14 @@ pub struct Solved {
 
 impl Model for Solved {
     ghost use Rattle.std.specs.Prelude.{IsTrue};
+    ghost use Rattle.std.specs.Coded.{codes};
+    ghost use Rattle.flow_tree.specs.contracts.exec.Exec as exec;
     ghost use Rattle.facts.specs.Passwords.{is_solved};
     ghost use Rattle.facts.specs.Solved.{SolvedAsk};
 
     ghost Value = { SolvedAsk };
+
+    ghost coded = { Prim.hlevel (codes, exec.the_row.coded) };
 
     ghost view = { λ s. record { ask = s.ask; finding = s.finding } };
 

@@ -1,107 +1,214 @@
-ghost use Rattle.std.specs.Prelude.{◌≡◌};
-ghost use Rattle.facts.specs.Tabs.{is_known, last_code, is_finished};
+ghost use Rattle.std.specs.Prelude.{◌≡◌, Some, if◌then◌else◌};
+ghost use Rattle.facts.specs.Tabs.{is_root, seen_at, ended_by, session_after, is_live, live_session, who_of, tab_state};
+ghost use Rattle.login_base.specs.IdText.{same_id};
 
-use crate::chronicle::Chronicle;
 use crate::fact::Fact;
-use crate::scan::{Pick, last_by};
-use login_base::{Code, RootKey, Steps, TabKey, same_id};
+use crate::facts::Facts;
+use crate::scan::{Fold, fold_by};
+use login_base::{Code, RootKey, SessionId, Steps, TabKey, UserId, same_id};
 use std::sync::ledger::Ledger;
 
-/// Picks the opening of a tab in a root.
+/// With what a tab was opened: the version of the realm, and the asked level.
+#[derive(Clone, Copy, Debug, PartialEq, Eq)]
+pub struct Opening {
+    pub version: u64,
+    pub level: u32,
+}
+
+/// A session of a root, with the moments of its beginning and of its last use, in milliseconds,
+/// and how long it lives without use and at most, in seconds.
+#[derive(Clone, Copy, Debug, PartialEq, Eq)]
+pub struct RootSession {
+    pub session: SessionId,
+    pub user: UserId,
+    pub opened: u64,
+    pub seen: u64,
+    pub idle: u64,
+    pub max: u64,
+}
+
+impl RootSession {
+    /// Whether it is in use at this moment.
+    pub fn is_live(&self, now: u64) -> bool
+        ensures value { result ≡ is_live now self.now }
+    {
+        now.saturating_sub(self.seen) / 1000 < self.idle
+            && now.saturating_sub(self.opened) / 1000 < self.max
+    }
+}
+
+/// What is known of a tab of a root.
+#[derive(Clone, Copy, Debug, PartialEq, Eq)]
+pub struct TabState {
+    /// None where the root has no such tab.
+    pub opening: Option<Opening>,
+    /// The code that was shown last.
+    pub code: Option<Code>,
+    /// The user that was named last.
+    pub named: Option<UserId>,
+    /// The tab has completed after its opening.
+    pub completed: bool,
+    /// The root's last session, unless it was ended.
+    pub session: Option<RootSession>,
+}
+
+impl TabState {
+    /// The session that the root has at this moment.
+    pub fn live_session(&self, now: u64) -> Option<RootSession>
+        ensures value { result ≡ live_session now self.now }
+    {
+        match self.session {
+            Some(own) if own.is_live(now) => Some(own),
+            _ => None,
+        }
+    }
+
+    /// Whose login it is at this moment: that of the user of the root's live session, else of the
+    /// user that was named last.
+    pub fn who(&self, now: u64) -> Option<UserId>
+        ensures value { result ≡ who_of now self.now }
+    {
+        match self.live_session(now) {
+            Some(own) => Some(own.user),
+            None => self.named,
+        }
+    }
+}
+
+/// A use of a session at a moment moves its last use.
+fn seen_at(own: Option<RootSession>, session: &SessionId, moment: u64) -> Option<RootSession>
+    ensures { result ≡ seen_at session.now moment own }
+{
+    match own {
+        Some(own) if same_id(&own.session.0, &session.0) => Some(RootSession {
+            seen: moment,
+            ..own
+        }),
+        _ => own,
+    }
+}
+
+/// The end of a session takes it away.
+fn ended_by(own: Option<RootSession>, session: &SessionId) -> Option<RootSession>
+    ensures { result ≡ ended_by session.now own }
+{
+    match own {
+        Some(own) if same_id(&own.session.0, &session.0) => None,
+        _ => own,
+    }
+}
+
+/// Carries what is known of a tab of a root.
 #[derive(Clone, Copy, Debug)]
-struct Opens {
+struct TabOf {
     root: RootKey,
     tab: TabKey,
 }
 
-impl Pick for Opens {
-    ghost use Rattle.facts.specs.Tabs.{opens};
+impl TabOf {
+    fn is_root(&self, root: &Option<RootKey>) -> bool
+        ensures { result ≡ is_root self.now.root root.now }
+    {
+        match root {
+            Some(root) => same_id(&root.0, &self.root.0),
+            None => false,
+        }
+    }
 
-    type Out = ();
+    fn is_tab(&self, tab: &TabKey) -> bool
+        ensures { result ≡ same_id tab.now.0 self.now.tab.0 }
+    {
+        same_id(&tab.0, &self.tab.0)
+    }
 
-    ghost pick = { λ p. opens p.root p.tab };
-
-    fn of(&self, fact: &Fact) -> Option<()> {
+    /// The root's session after a fact.
+    fn session_after(&self, own: Option<RootSession>, fact: &Fact) -> Option<RootSession>
+        ensures { result ≡ session_after self.now.root own fact.now }
+    {
         match fact {
-            Fact::Opened { root, tab, .. }
-                if same_id(&root.0, &self.root.0) && same_id(&tab.0, &self.tab.0) => { Some(()) }
-            _ => None,
+            Fact::Session {
+                session,
+                root,
+                user,
+                moment,
+                idle,
+                max,
+            } if self.is_root(root) => Some(RootSession {
+                session: *session,
+                user: *user,
+                opened: *moment,
+                seen: *moment,
+                idle: *idle,
+                max: *max,
+            }),
+            Fact::Seen { session, moment } => seen_at(own, session, *moment),
+            Fact::SessionEnd { session } => ended_by(own, session),
+            _ => own,
+        }
+    }
+
+    /// The opening after one of this tab: only one in the root counts.
+    fn opening(&self, root: &RootKey, new: Opening, own: Option<Opening>) -> Option<Opening>
+        ensures { result ≡ (if same_id root.now.0 self.now.root.0 then Some new else own) }
+    {
+        if same_id(&root.0, &self.root.0) {
+            Some(new)
+        } else {
+            own
         }
     }
 }
 
-/// Picks the code of a page that is shown in a tab.
-#[derive(Clone, Copy, Debug)]
-struct ShownCode {
-    tab: TabKey,
-}
+impl Fold for TabOf {
+    ghost use Rattle.facts.specs.Tabs.{tab_after};
 
-impl Pick for ShownCode {
-    ghost use Rattle.facts.specs.Tabs.{shown_code};
+    type Carried = TabState;
 
-    type Out = Code;
+    ghost carry = { λ t. tab_after t.root t.tab };
 
-    ghost pick = { λ p. shown_code p.tab };
-
-    fn of(&self, fact: &Fact) -> Option<Code> {
+    fn after(&self, carried: &mut TabState, fact: &Fact) {
         match fact {
-            Fact::Rendered { tab, code, .. } if same_id(&tab.0, &self.tab.0) => Some(*code),
-            _ => None,
+            Fact::Opened {
+                root,
+                tab,
+                version,
+                level,
+                ..
+            } if self.is_tab(tab) => {
+                let new = Opening {
+                    version: *version,
+                    level: *level,
+                };
+                carried.opening = self.opening(root, new, carried.opening);
+                carried.completed = false;
+            }
+            Fact::Rendered { tab, code, .. } if self.is_tab(tab) => carried.code = Some(*code),
+            Fact::Named { tab, user } if self.is_tab(tab) => carried.named = Some(*user),
+            Fact::Completed { tab, .. } if self.is_tab(tab) => carried.completed = true,
+            Fact::Session { .. } | Fact::Seen { .. } | Fact::SessionEnd { .. } => {
+                carried.session = self.session_after(carried.session, fact);
+            }
+            _ => {}
         }
     }
 }
 
-/// Picks whether a tab is finished.
-#[derive(Clone, Copy, Debug)]
-struct Finish {
-    tab: TabKey,
-}
-
-impl Pick for Finish {
-    ghost use Rattle.facts.specs.Tabs.{finish_of};
-
-    type Out = bool;
-
-    ghost pick = { λ p. finish_of p.tab };
-
-    fn of(&self, fact: &Fact) -> Option<bool> {
-        match fact {
-            Fact::Opened { tab, .. } if same_id(&tab.0, &self.tab.0) => Some(false),
-            Fact::Completed { tab, .. } if same_id(&tab.0, &self.tab.0) => Some(true),
-            _ => None,
-        }
-    }
-}
-
-/// Whether a tab was opened in a root.
-#[tactic(auto, unfolding(crate::specs::Tabs::is_known))]
-pub fn is_known<L: Ledger>(
-    chronicle: &Chronicle,
+/// What is known of a tab of a root.
+#[tactic(auto, unfolding(crate::specs::Tabs::tab_state))]
+pub fn tab_state<L: Ledger>(
+    facts: &Facts<'_>,
     root: RootKey,
     tab: TabKey,
     steps: &mut Steps<L>,
-) -> bool
-    ensures value { result ≡ is_known root tab chronicle.now.list }
+) -> TabState
+    ensures value { result ≡ tab_state root tab facts.now }
 {
-    last_by(chronicle, &Opens { root, tab }, steps).is_some()
-}
-
-/// The code that was shown last in a tab.
-#[tactic(auto, unfolding(crate::specs::Tabs::last_code))]
-pub fn last_code<L: Ledger>(
-    chronicle: &Chronicle,
-    tab: TabKey,
-    steps: &mut Steps<L>,
-) -> Option<Code>
-    ensures value { result ≡ last_code tab chronicle.now.list }
-{
-    last_by(chronicle, &ShownCode { tab }, steps)
-}
-
-/// Whether a tab has completed after its opening.
-#[tactic(auto, unfolding(crate::specs::Tabs::is_finished))]
-pub fn is_finished<L: Ledger>(chronicle: &Chronicle, tab: TabKey, steps: &mut Steps<L>) -> bool
-    ensures value { result ≡ is_finished tab chronicle.now.list }
-{
-    last_by(chronicle, &Finish { tab }, steps).unwrap_or(false)
+    let nothing = TabState {
+        opening: None,
+        code: None,
+        named: None,
+        completed: false,
+        session: None,
+    };
+    fold_by(facts, &TabOf { root, tab }, nothing, steps)
 }

@@ -4,10 +4,10 @@ ghost use Rattle.facts.specs.Words.{rule_words, kind_words, action_words, number
 ghost use Rattle.login_base.specs.IdText.{id_bytes};
 
 use crate::action::Action;
-use crate::kind::Kind;
 use crate::reply::{Need, Next, Reply, What, Who};
 use crate::rule::Rule;
 use crate::text::{add, add_field, add_fields, add_id, add_number};
+use flow_tree::Kind;
 use login_base::{Code, Memory, Sequence, SessionId, id_text};
 use std::alloc::Global;
 

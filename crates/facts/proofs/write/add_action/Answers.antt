@@ -1,6 +1,3 @@
-use Rattle.std.proofs.Common.{◌≡◌, List, ℕ, ◌++◌, ap, ◌∙◌}
-use Rattle.std.specs.Prelude.{codes}
-use Rattle.facts.specs.Words.{action_words}
 use Rattle.facts.proofs.TextLemmas.{two_texts}
 use Rattle.facts.proofs.write.add_action.Goals as goal
 

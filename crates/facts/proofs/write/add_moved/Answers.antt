@@ -1,4 +1,3 @@
-use Rattle.std.proofs.Common.{◌≡◌, List, ℕ}
 use Rattle.std.specs.Prelude.{codes, decimal}
 use Rattle.facts.proofs.TextLemmas.{two_fields}
 use Rattle.facts.proofs.write.add_moved.Goals as goal

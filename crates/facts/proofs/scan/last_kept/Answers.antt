@@ -1,8 +1,6 @@
-use Rattle.std.proofs.Common.{sym, ap, arith, ◌∙◌}
-use Rattle.std.proofs.lemmas.List.{take_all}
-use Rattle.facts.specs.Places.{last_of}
+use Rattle.std.proofs.Common.{sym}
 use Rattle.facts.proofs.PlacesLemmas.{last_of-more}
-use Rattle.facts.proofs.scan.last_by.Goals as goal
+use Rattle.facts.proofs.scan.last_kept.Goals as goal
 
 pub loop-i-preserved : goal.loop-i-preserved
 loop-i-preserved g c =
