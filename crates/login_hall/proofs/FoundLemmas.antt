@@ -1,5 +1,5 @@
 -- What is found for an ask belongs to it.
-use Rattle.std.proofs.Common.{◌≡◌, ℕ, true, List, Some, None, refl, sym, ap, ◌∙◌, lit≤}
+use Rattle.std.proofs.Common.{◌≡◌, ℕ, true, List, Some, None, refl, sym, ap, ◌∙◌}
 use Rattle.std.specs.Prelude.{Option}
 use Rattle.login_base.specs.declared.words.Words.{Words}
 use Rattle.facts.specs.declared.ask.Ask.{Ask}
@@ -15,51 +15,49 @@ use Rattle.facts.proofs.PasswordLemmas.{emptied_ask, emptied_plain}
 use Rattle.login_hall.specs.declared.task.Task.{Task}
 use Rattle.login_hall.specs.declared.task.Task.TheVariants as tasks
 use Rattle.login_hall.specs.UserAdd.{IsKeepable}
-use Rattle.login_hall.specs.Found.{task_for, finding_of, HasRounds, has_password, iterations, salt_of, target_password, found, finding_for, solved_of}
+use Rattle.login_hall.specs.Found.{task_for, finding_of, HasRounds, has_password, target_password, found, finding_for, solved_of}
+use Rattle.login_hall.specs.Realms.{realm_now}
 
 -- the finding is one of what the ask does with its password
-finding_belongs : (usage : PasswordUse) (target : Option UserPassword) (words : Words) (task : Task) (password : List ℕ) → task_for usage target words ≡ Some task → is_finding_of usage (finding_of task password) ≡ true
+finding_belongs : (usage : PasswordUse) (target : Option UserPassword) (iterations : ℕ) (words : Words) (task : Task) (password : List ℕ) → task_for usage target iterations words ≡ Some task → HasRounds task → is_finding_of usage (finding_of task password) ≡ true
 unfolding task_for finding_of
-finding_belongs uses.NoPassword target words task password h = absurd cc
-finding_belongs uses.Checks None words task password h = let e : ◌≡◌ {A = Task} (tasks.Check None) task = cc in rw (← e) refl
-finding_belongs uses.Checks (Some kept) words task password h = let e : ◌≡◌ {A = Task} (tasks.Check (Some kept)) task = cc in rw (← e) refl
-finding_belongs uses.Sets target words task password h = let e : ◌≡◌ {A = Task} (tasks.Derive (salt_of words) iterations) task = cc in rw (← e) refl
+finding_belongs uses.NoPassword target iterations words task password h rounds = absurd cc
+finding_belongs uses.Checks target iterations words (tasks.Check None) password h rounds = refl
+finding_belongs uses.Checks target iterations words (tasks.Check (Some kept)) password h rounds = refl
+finding_belongs uses.Checks target iterations words (tasks.Derive salt count) password h rounds = absurd cc
+finding_belongs uses.Sets target iterations words (tasks.Check kept) password h rounds = absurd cc
+finding_belongs uses.Sets target iterations words (tasks.Derive salt count) password h rounds = rounds
 
-pub has_rounds : (usage : PasswordUse) (target : Option UserPassword) (words : Words) (task : Task) → task_for usage target words ≡ Some task → HasRounds task
-unfolding task_for
-has_rounds uses.NoPassword target words task h = absurd cc
-has_rounds uses.Checks target words task h = let e : ◌≡◌ {A = Task} (tasks.Check target) task = cc in rw (← e) tt
-has_rounds uses.Sets target words task h = let e : ◌≡◌ {A = Task} (tasks.Derive (salt_of words) iterations) task = cc in rw (← e) (lit≤ tt)
-
-pub work_is_solved : (ask : Ask) (target : Option UserPassword) (words : Words) (task : Task) → task_for (password_use ask) target words ≡ Some task → is_solved (emptied ask) (finding_of task (password_text ask)) ≡ true
-work_is_solved ask target words task h =
+pub work_is_solved : (ask : Ask) (target : Option UserPassword) (iterations : ℕ) (words : Words) (task : Task) → task_for (password_use ask) target iterations words ≡ Some task → HasRounds task → is_solved (emptied ask) (finding_of task (password_text ask)) ≡ true
+work_is_solved ask target iterations words task h rounds =
     let e = emptied_ask ask in
-    rw (e.0, e.1) (finding_belongs (password_use ask) target words task (password_text ask) h)
+    rw (e.0, e.1) (finding_belongs (password_use ask) target iterations words task (password_text ask) h rounds)
 
 -- an ask without a password is itself when it is emptied
-pub task_none : (usage : PasswordUse) (target : Option UserPassword) (words : Words) → task_for usage target words ≡ None → usage ≡ uses.NoPassword
+pub task_none : (usage : PasswordUse) (target : Option UserPassword) (iterations : ℕ) (words : Words) → task_for usage target iterations words ≡ None → usage ≡ uses.NoPassword
 unfolding task_for
-task_none uses.NoPassword target words h = refl
-task_none uses.Checks target words h = absurd cc
-task_none uses.Sets target words h = absurd cc
+task_none uses.NoPassword target iterations words h = refl
+task_none uses.Checks target iterations words h = absurd cc
+task_none uses.Sets target iterations words h = absurd cc
 
-pub task_some : (usage : PasswordUse) (target : Option UserPassword) (words : Words) (task : Task) → task_for usage target words ≡ Some task → has_password usage ≡ true
+pub task_some : (usage : PasswordUse) (target : Option UserPassword) (iterations : ℕ) (words : Words) (task : Task) → task_for usage target iterations words ≡ Some task → has_password usage ≡ true
 unfolding task_for
-task_some uses.NoPassword target words task h = absurd cc
-task_some uses.Checks target words task h = refl
-task_some uses.Sets target words task h = refl
+task_some uses.NoPassword target iterations words task h = absurd cc
+task_some uses.Checks target iterations words task h = refl
+task_some uses.Sets target iterations words task h = refl
 
-pub solved_some : (chronicle : List Fact) (ask : Ask) (words : Words) (task : Task) → task_for (password_use ask) (target_password chronicle ask) words ≡ Some task
-    → ◌≡◌ {A = SolvedAsk} (record { ask = emptied ask; finding = finding_of task (password_text ask) }) (solved_of chronicle ask words)
-unfolding found
-solved_some chronicle ask words task h = ap (λ (o : Option Task). let solved : SolvedAsk = record { ask = emptied ask; finding = finding_for o (password_text ask) } in solved) (sym h)
+module _ (chronicle : List Fact) (moment : ℕ) (ask : Ask) (words : Words) where
+  pub solved_some : (task : Task) → task_for (password_use ask) (target_password chronicle moment ask) (realm_now chronicle).iterations words ≡ Some task
+      → ◌≡◌ {A = SolvedAsk} (record { ask = emptied ask; finding = finding_of task (password_text ask) }) (solved_of chronicle moment ask words)
+  unfolding found
+  solved_some task h = ap (λ (o : Option Task). let solved : SolvedAsk = record { ask = emptied ask; finding = finding_for o (password_text ask) } in solved) (sym h)
 
-pub solved_none : (chronicle : List Fact) (ask : Ask) (words : Words) → task_for (password_use ask) (target_password chronicle ask) words ≡ None
-    → ◌≡◌ {A = SolvedAsk} (record { ask = ask; finding = findings.None }) (solved_of chronicle ask words)
-unfolding found
-solved_none chronicle ask words h =
-    ap (λ (a : Ask). let solved : SolvedAsk = record { ask = a; finding = findings.None } in solved) (sym (emptied_plain ask (task_none (password_use ask) (target_password chronicle ask) words h)))
-    ∙ ap (λ (o : Option Task). let solved : SolvedAsk = record { ask = emptied ask; finding = finding_for o (password_text ask) } in solved) (sym h)
+  pub solved_none : task_for (password_use ask) (target_password chronicle moment ask) (realm_now chronicle).iterations words ≡ None
+      → ◌≡◌ {A = SolvedAsk} (record { ask = ask; finding = findings.None }) (solved_of chronicle moment ask words)
+  unfolding found
+  solved_none h =
+      ap (λ (a : Ask). let solved : SolvedAsk = record { ask = a; finding = findings.None } in solved) (sym (emptied_plain ask (task_none (password_use ask) (target_password chronicle moment ask) (realm_now chronicle).iterations words h)))
+      ∙ ap (λ (o : Option Task). let solved : SolvedAsk = record { ask = emptied ask; finding = finding_for o (password_text ask) } in solved) (sym h)
 
 -- a finding that belongs to an ask can be kept
 pub is_keepable : (usage : PasswordUse) (finding : Finding) → is_finding_of usage finding ≡ true → IsKeepable finding

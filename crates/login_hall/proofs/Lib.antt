@@ -1,4 +1,5 @@
 pub mod FoundLemmas
-pub mod PostLemmas
+pub mod PostLaws
 pub mod Pushes
 pub mod SerialLemmas
+pub mod StartLemmas

@@ -1,11 +1,14 @@
 -- What the check of a password finds.
-use Rattle.std.specs.Prelude.{ℕ, ◌≤◌, Bool, true, List, ◌++◌, Option, Some, None, option_and_then, slice_index, false}
+use Rattle.std.specs.Prelude.{◌≡◌, ℕ, Bool, true, List, ◌++◌, Option, Some, None, option_and_then, slice_index, false}
 use Rattle.std.specs.Int.{w64, to_be_bytes}
 use Rattle.std.specs.Str.{bytes_eq}
+use Rattle.login_base.specs.declared.id.RootKey.{RootKey}
+use Rattle.login_base.specs.declared.id.TabKey.{TabKey}
 use Rattle.login_base.specs.declared.id.UserId.{UserId}
 use Rattle.login_base.specs.declared.words.Words.{Words}
 use Rattle.facts.specs.declared.ask.Ask.{Ask}
 use Rattle.facts.specs.declared.ask.Ask.TheVariants as asks
+use Rattle.facts.specs.declared.ask.Form.{Form}
 use Rattle.facts.specs.declared.ask.Form.TheVariants as forms
 use Rattle.facts.specs.declared.fact.Fact.{Fact}
 use Rattle.facts.specs.declared.finding.Finding.{Finding}
@@ -13,41 +16,60 @@ use Rattle.facts.specs.declared.finding.Finding.TheVariants as findings
 use Rattle.facts.specs.declared.finding.PasswordUse.{PasswordUse}
 use Rattle.facts.specs.declared.finding.PasswordUse.TheVariants as uses
 use Rattle.facts.specs.declared.passwords.UserPassword.{UserPassword}
+use Rattle.facts.specs.declared.tabs.Opening.{Opening}
+use Rattle.facts.specs.declared.tabs.TabState.{TabState}
 use Rattle.facts.specs.Accounts.{account_named}
-use Rattle.facts.specs.Passwords.{password_use, password_text, emptied}
+use Rattle.facts.specs.Passwords.{password_use, password_text, emptied, is_iterations}
 use Rattle.facts.specs.Secrets.{password_of}
 use Rattle.facts.specs.Solved.{SolvedAsk}
+use Rattle.facts.specs.Tabs.{tab_state, who_of}
 use Rattle.mac_kit.specs.Pbkdf2.{pbkdf2_sha256}
+use Rattle.login_hall.specs.Realms.{realm_now}
 use Rattle.login_hall.specs.declared.task.Task.{Task}
 use Rattle.login_hall.specs.declared.task.Task.TheVariants as tasks
-
--- the iterations of the built-in realm
-abbrev pub iterations : ℕ
-iterations = 100
 
 -- the salt of an ask: the words 8 and 9
 abbrev pub salt_of : Words → List ℕ
 salt_of words = to_be_bytes w64 (slice_index words.0 8) ++ to_be_bytes w64 (slice_index words.0 9)
 
--- the account whose password a post checks: that of the name in it
-unfoldable pub target_of : List Fact → Ask → Option UserId
-target_of chronicle (asks.Post root tab code (forms.NamePassword execution name password)) = account_named name chronicle
-target_of chronicle ask = None
+-- whose login it is in a tab of a root at a moment, where the root has the tab
+abbrev pub who_among : ℕ → TabState → Option Opening → Option UserId
+who_among moment state None = None
+who_among moment state (Some opening) = who_of moment state
 
--- the password that the post has to fit
-unfoldable pub target_password : List Fact → Ask → Option UserPassword
-target_password chronicle ask = option_and_then (λ user. password_of user chronicle) (target_of chronicle ask)
+abbrev pub who_in : List Fact → ℕ → Option RootKey → TabKey → Option UserId
+who_in chronicle moment None tab = None
+who_in chronicle moment (Some root) tab = who_among moment (tab_state root tab chronicle) (tab_state root tab chronicle).opening
 
--- what is to be done with the password of an ask
-unfoldable pub task_for : PasswordUse → Option UserPassword → Words → Option Task
-task_for uses.NoPassword target words = None
-task_for uses.Checks target words = Some (tasks.Check target)
-task_for uses.Sets target words = Some (tasks.Derive (salt_of words) iterations)
+-- the account whose password a form checks in a tab: that of the name in it, else the one whose login it is
+abbrev pub form_target : List Fact → ℕ → Option RootKey → TabKey → Form → Option UserId
+form_target chronicle moment root tab (forms.NamePassword execution name password) = account_named name chronicle
+form_target chronicle moment root tab (forms.Password execution password) = who_in chronicle moment root tab
+form_target chronicle moment root tab form = None
 
--- a password is hashed at least once
+-- the account whose password an ask checks
+unfoldable pub target_of : List Fact → ℕ → Ask → Option UserId
+target_of chronicle moment (asks.Post root tab code form) = form_target chronicle moment root tab form
+target_of chronicle moment ask = None
+
+-- the password that the ask has to fit
+unfoldable pub target_password : List Fact → ℕ → Ask → Option UserPassword
+target_password chronicle moment ask = option_and_then (λ user. password_of user chronicle) (target_of chronicle moment ask)
+
+-- what is to be done with the password of an ask: a new one is hashed so often
+unfoldable pub task_for : PasswordUse → Option UserPassword → ℕ → Words → Option Task
+task_for uses.NoPassword target iterations words = None
+task_for uses.Checks target iterations words = Some (tasks.Check target)
+task_for uses.Sets target iterations words = Some (tasks.Derive (salt_of words) iterations)
+
+-- a password is hashed as often as it may be
 abbrev pub HasRounds : Task → Type 0
 HasRounds (tasks.Check target) = Unit {0}
-HasRounds (tasks.Derive salt count) = 1 ≤ count
+HasRounds (tasks.Derive salt count) = is_iterations count ≡ true
+
+abbrev pub MayHave : Option Task → Type 0
+MayHave None = Unit {0}
+MayHave (Some task) = HasRounds task
 
 -- A password fits exactly where the key that is derived from it is the kept digest. The new password of an ask is
 -- kept as the key that is derived from it.
@@ -60,13 +82,14 @@ abbrev pub finding_for : Option Task → List ℕ → Finding
 finding_for None password = findings.None
 finding_for (Some task) password = finding_of task password
 
--- what is found for an ask over a chronicle
-unfoldable pub found : List Fact → Ask → Words → Finding
-found chronicle ask words = finding_for (task_for (password_use ask) (target_password chronicle ask) words) (password_text ask)
+-- what is found for an ask over a chronicle whose last used moment this is
+unfoldable pub found : List Fact → ℕ → Ask → Words → Finding
+found chronicle moment ask words =
+    finding_for (task_for (password_use ask) (target_password chronicle moment ask) (realm_now chronicle).iterations words) (password_text ask)
 
 -- the ask with its password gone, and what was found
-abbrev pub solved_of : List Fact → Ask → Words → SolvedAsk
-solved_of chronicle ask words = record { ask = emptied ask; finding = found chronicle ask words }
+abbrev pub solved_of : List Fact → ℕ → Ask → Words → SolvedAsk
+solved_of chronicle moment ask words = record { ask = emptied ask; finding = found chronicle moment ask words }
 
 -- the ask has a password
 abbrev pub has_password : PasswordUse → Bool

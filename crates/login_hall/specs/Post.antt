@@ -1,59 +1,61 @@
--- What the post of a name and a password is due.
-use Rattle.std.specs.Prelude.{ℕ, ◌+◌, Bool, true, false, ◌&&◌, ◌==◌, List, [], ◌∷◌, ◌++◌, Option, Some, None, Result, Ok, Err, option_and_then, codes, if◌then◌else◌}
-use Rattle.std.specs.Str.{bytes_eq}
+-- What a post is due.
+use Rattle.std.specs.Prelude.{ℕ, Bool, true, false, ◌==◌, List, [], ◌∷◌, ◌++◌, Option, Some, None, Result, Ok, Err, option_and_then, if◌then◌else◌}
+use Rattle.std.specs.List.{list_any}
 use Rattle.login_base.specs.IdText.{same_id}
 use Rattle.login_base.specs.declared.id.Code.{Code}
 use Rattle.login_base.specs.declared.id.RootKey.{RootKey}
-use Rattle.login_base.specs.declared.id.SessionId.{SessionId}
 use Rattle.login_base.specs.declared.id.TabKey.{TabKey}
 use Rattle.login_base.specs.declared.id.UserId.{UserId}
-use Rattle.login_base.specs.declared.words.Words.{Words}
+use Rattle.facts.specs.declared.ask.Form.{Form}
+use Rattle.facts.specs.declared.ask.Form.TheVariants as forms
 use Rattle.facts.specs.declared.fact.Fact.{Fact}
 use Rattle.facts.specs.declared.fact.Fact.TheVariants as facts
 use Rattle.facts.specs.declared.finding.Finding.{Finding}
 use Rattle.facts.specs.declared.finding.Finding.TheVariants as findings
-use Rattle.facts.specs.declared.kind.Kind.TheVariants as kinds
 use Rattle.facts.specs.declared.passwords.UserPassword.{UserPassword}
-use Rattle.facts.specs.declared.reply.Next.{Next}
+use Rattle.facts.specs.declared.reply.Need.{Need}
 use Rattle.facts.specs.declared.reply.Next.TheVariants as nexts
 use Rattle.facts.specs.declared.reply.What.{What}
 use Rattle.facts.specs.declared.reply.What.TheVariants as whats
-use Rattle.facts.specs.Accounts.{account_named}
 use Rattle.facts.specs.Secrets.{password_of}
-use Rattle.facts.specs.Serials.{last_tab_serial, last_stored_serial}
-use Rattle.facts.specs.Tabs.{is_known, last_code, is_finished}
+use Rattle.facts.specs.Tabs.{live_session, who_of, tab_state}
 use Rattle.login_hall.specs.declared.answer.Answer.{Answer}
 use Rattle.login_hall.specs.declared.check.Check.{Check}
 use Rattle.login_hall.specs.declared.check.Check.TheVariants as checks
+use Rattle.login_hall.specs.declared.known_tab.KnownTab.{KnownTab}
+use Rattle.login_hall.specs.declared.outcome.Outcome.{Outcome}
 use Rattle.login_hall.specs.declared.refusal.Refusal.{Refusal}
-use Rattle.login_hall.specs.declared.refusal.Refusal.TheVariants.{UnknownTab, Stale, Finished, NotAsked, CredentialMoved}
-use Rattle.login_hall.specs.Ids.{code_at, session_at}
-use Rattle.login_hall.specs.NewTab.{form_need, no_offer}
+use Rattle.login_hall.specs.declared.refusal.Refusal.TheVariants.{Stale, NotAsked, CredentialMoved}
+use Rattle.login_hall.specs.Forms.{named_by, target_of, is_of, evidence_of}
+use Rattle.login_hall.specs.Ids.{next_code}
+use Rattle.login_hall.specs.Page.{answered_in}
 use Rattle.login_hall.specs.Plain.{in_tab}
+use Rattle.login_hall.specs.Progress.{progress_of, asked_in}
 use Rattle.login_hall.specs.Refusals.{◌>>=◌, settled, settled_in}
+use Rattle.login_hall.specs.Setting.{Setting}
+use Rattle.login_hall.specs.Shown.{rendered, shown}
+use Rattle.login_hall.specs.Visit.{known_tab, not_split, same_user, unfinished, user_of}
 
 -- ---- refusals, in their order
-
--- a root is given, and it has the tab
-unfoldable pub known_tab : List Fact → Option RootKey → TabKey → Result RootKey Refusal
-known_tab chronicle None tab = Err UnknownTab
-known_tab chronicle (Some root) tab = if is_known root tab chronicle then Ok root else Err UnknownTab
 
 abbrev pub is_code : Code → Option Code → Bool
 is_code code None = false
 is_code code (Some shown) = same_id shown.0 code.0
 
 -- the code is the one that was shown last
-unfoldable pub current_code : List Fact → TabKey → Code → Result (Unit {0}) Refusal
-current_code chronicle tab code = if is_code code (last_code tab chronicle) then Ok tt else Err (Stale (last_code tab chronicle))
+abbrev pub current_code : KnownTab → Code → Result (Unit {0}) Refusal
+current_code known code = if is_code code known.state.code then Ok tt else Err (Stale known.state.code)
 
--- the tab hasn't completed
-unfoldable pub unfinished : List Fact → TabKey → Result (Unit {0}) Refusal
-unfinished chronicle tab = if is_finished tab chronicle then Err Finished else Ok tt
+-- the existing user whom the form names is the one of the live session
+abbrev pub not_other : ℕ → KnownTab → Option UserId → Result (Unit {0}) Refusal
+not_other moment known named = same_user named (user_of (live_session moment known.state))
 
--- the execution is the one that the built-in realm asks
-unfoldable pub asked : List ℕ → Result (Unit {0}) Refusal
-asked execution = if bytes_eq execution form_need.id then Ok tt else Err NotAsked
+abbrev pub has_need : List Need → Form → Bool
+has_need asked form = list_any (λ (need : Need). is_of need form) asked
+
+-- the form is one of an execution that is asked
+abbrev pub is_asked : List Need → Form → Result (Unit {0}) Refusal
+is_asked asked form = if has_need asked form then Ok tt else Err NotAsked
 
 abbrev pub serial_of : Option UserPassword → ℕ
 serial_of None = 0
@@ -63,52 +65,54 @@ abbrev pub had_by : Finding → ℕ
 had_by (findings.Checked had fits) = had
 had_by finding = 0
 
--- the password was checked against the one that the named user has
+-- the password was checked against the one that the target has
 unfoldable pub unmoved : Option UserPassword → Finding → Result (Unit {0}) Refusal
 unmoved password finding = if had_by finding == serial_of password then Ok tt else Err (CredentialMoved (had_by finding) (serial_of password))
 
 -- ---- the check
 
--- the password that the named user has
-unfoldable pub password_named : List Fact → List ℕ → Option UserPassword
-password_named chronicle name = option_and_then (λ user. password_of user chronicle) (account_named name chronicle)
-
 -- the user is there, has a password, and it fits
-unfoldable pub check_of : Option UserId → Option UserPassword → Finding → Check
-check_of (Some user) (Some kept) (findings.Checked had true) = checks.Fits user kept.serial
-check_of user password finding = checks.Wrong user
+unfoldable pub password_check : Option UserId → Option UserPassword → Finding → Check
+password_check (Some user) (Some kept) (findings.Checked had true) = checks.Fits user kept.serial
+password_check user password finding = checks.Wrong user
 
--- the check of a post in a known tab, or the first refusal
-unfoldable pub posted : List Fact → TabKey → Code → List ℕ → List ℕ → Finding → Result Check Refusal
-posted chronicle tab code execution name finding = do
-  current ← current_code chronicle tab code
-  open_tab ← unfinished chronicle tab
-  asked_form ← asked execution
-  same_password ← unmoved (password_named chronicle name) finding
-  Ok (check_of (account_named name chronicle) (password_named chronicle name) finding)
+-- a name alone has to be that of a user
+abbrev pub name_check : Option UserId → Check
+name_check (Some user) = checks.Fits user 0
+name_check None = checks.Wrong None
+
+abbrev pub check_of : Option UserId → Option UserId → Option UserPassword → Form → Finding → Check
+check_of named target password (forms.Username execution name) finding = name_check named
+check_of named target password form finding = password_check target password finding
+
+unfoldable pub target_password : List Fact → Option UserId → Option UserPassword
+target_password facts target = option_and_then (λ user. password_of user facts) target
+
+-- the check of a post in a known tab where these executions are asked, or the first refusal
+unfoldable pub posted : List Fact → ℕ → KnownTab → List Need → Code → Form → Finding → Result Check Refusal
+posted facts moment known asked code form finding =
+    let target = target_of (named_by facts form) (who_of moment known.state) form in
+    let password = target_password facts target in
+    do
+      current ← current_code known code
+      whole ← not_split moment known
+      same ← not_other moment known (named_by facts form)
+      going ← unfinished known
+      fitting ← is_asked asked form
+      kept ← unmoved password finding
+      Ok (check_of (named_by facts form) target password form finding)
 
 -- ---- answers
 
--- how long a session of the built-in realm lives without use, and at most, in seconds
-abbrev pub session_idle : ℕ
-session_idle = 1800
+abbrev pub after_evidence : List Fact → Outcome → Outcome
+after_evidence evidence outcome = record outcome { added = evidence ++ outcome.added }
 
-abbrev pub session_max : ℕ
-session_max = 36000
-
--- the evidence of the post is added, and the login completes in a new session
-unfoldable pub completed : List Fact → RootKey → TabKey → List ℕ → UserId → ℕ → ℕ → Words → Answer
-completed chronicle root tab name user credential moment words =
-    let session = session_at (last_stored_serial chronicle + 1) words in
-    record {
-      reply = in_tab tab (whats.Done session (record { id = user; name = name }) 0);
-      added =
-          facts.Named tab user
-          ∷ facts.Passed tab form_need.id user kinds.Form credential moment
-          ∷ facts.Session session (Some root) user moment session_idle session_max
-          ∷ facts.Completed tab user session moment
-          ∷ [];
-    }
+-- the evidence is added, and stays; then the tab shows what it comes to
+unfoldable pub accepted : List Fact → Setting → KnownTab → Form → UserId → ℕ → Answer
+accepted facts setting known form user credential =
+    let evidence = evidence_of (record { tab = known.tab; user = user; credential = credential; moment = setting.moment }) form in
+    let more = facts ++ evidence in
+    answered_in known.tab (after_evidence evidence (shown more setting (record known { state = tab_state known.root known.tab more })))
 
 -- a failure counts where the user is there
 abbrev pub failure_of : Option UserId → ℕ → List Fact
@@ -116,26 +120,29 @@ failure_of None moment = []
 failure_of (Some user) moment = facts.Failed user moment ∷ []
 
 -- the same page again, with a new code
-unfoldable pub wrong_credentials : List Fact → TabKey → Option UserId → ℕ → Words → Answer
-wrong_credentials chronicle tab user moment words =
-    let code = code_at (last_tab_serial chronicle + 1) words in
+unfoldable pub wrong_credentials : List Fact → Setting → TabKey → List Need → Option UserId → Answer
+wrong_credentials facts setting tab asked user =
     record {
-      reply = in_tab tab (whats.BadCredentials (nexts.Form code (form_need ∷ [])));
-      added = failure_of user moment ++ facts.Rendered tab code None no_offer ∷ [];
+      reply = in_tab tab (whats.BadCredentials (nexts.Form (next_code facts setting.words) asked));
+      added = failure_of user setting.moment ++ rendered tab (next_code facts setting.words) ∷ [];
     }
 
-unfoldable pub checked : List Fact → RootKey → TabKey → List ℕ → ℕ → Words → Check → Answer
-checked chronicle root tab name moment words (checks.Fits user credential) = completed chronicle root tab name user credential moment words
-checked chronicle root tab name moment words (checks.Wrong user) = wrong_credentials chronicle tab user moment words
+unfoldable pub checked : List Fact → Setting → KnownTab → List Need → Form → Check → Answer
+checked facts setting known asked form (checks.Fits user credential) = accepted facts setting known form user credential
+checked facts setting known asked form (checks.Wrong user) = wrong_credentials facts setting known.tab asked user
+
+-- in a known tab where these executions are asked
+unfoldable pub post_where : List Fact → Setting → Code → Form → Finding → KnownTab → List Need → Answer
+post_where facts setting code form finding known asked =
+    settled_in facts known.tab (checked facts setting known asked form) (posted facts setting.moment known asked code form finding)
 
 -- in a known tab
-unfoldable pub due_in_tab : List Fact → TabKey → Code → List ℕ → List ℕ → Finding → ℕ → Words → RootKey → Answer
-due_in_tab chronicle tab code execution name finding moment words root =
-    settled_in tab (checked chronicle root tab name moment words) (posted chronicle tab code execution name finding)
+abbrev pub post_in : List Fact → Setting → Code → Form → Finding → KnownTab → Answer
+post_in facts setting code form finding known =
+    post_where facts setting code form finding known (asked_in (progress_of facts setting.moment known))
 
-unfoldable pub due_post : List Fact → Option RootKey → TabKey → Code → List ℕ → List ℕ → Finding → ℕ → Words → Answer
-due_post chronicle root tab code execution name finding moment words =
-    settled (due_in_tab chronicle tab code execution name finding moment words) (known_tab chronicle root tab)
+unfoldable pub due_post : List Fact → Setting → Option RootKey → TabKey → Code → Form → Finding → Answer
+due_post facts setting root tab code form finding = settled facts (post_in facts setting code form finding) (known_tab facts root tab)
 
 -- ---- what a post comes to
 

@@ -1,9 +1,13 @@
 -- Refusals, tried one after the other.
-use Rattle.std.specs.Prelude.{[], Result, Ok, Err, codes}
+use Rattle.std.specs.Prelude.{List, [], Result, Ok, Err, codes, unwrap_or}
 use Rattle.login_base.specs.declared.id.TabKey.{TabKey}
+use Rattle.login_base.specs.declared.id.UserId.{UserId}
+use Rattle.facts.specs.declared.fact.Fact.{Fact}
 use Rattle.facts.specs.declared.reply.What.{What}
 use Rattle.facts.specs.declared.reply.What.TheVariants as whats
+use Rattle.facts.specs.declared.reply.Who.{Who}
 use Rattle.facts.specs.declared.rule.Rule.TheVariants as rules
+use Rattle.facts.specs.Accounts.{name_of}
 use Rattle.login_hall.specs.declared.answer.Answer.{Answer}
 use Rattle.login_hall.specs.declared.refusal.Refusal.{Refusal}
 use Rattle.login_hall.specs.declared.refusal.Refusal.TheVariants as refusals
@@ -15,26 +19,32 @@ abbrev pub ◌>>=◌ : {A B : Type 0} → Result A Refusal → (A → Result B R
 (Ok x) >>= f = f x
 (Err refusal) >>= f = Err refusal
 
+-- a user by name; every user that there is was put with one
+abbrev pub who_named : List Fact → UserId → Who
+who_named facts user = record { id = user; name = unwrap_or (name_of user facts) (codes "unknown") }
+
 -- what a refusal says
-abbrev pub what_of : Refusal → What
-what_of refusals.NotBuilt = whats.BadForm (codes "verb")
-what_of refusals.UserTaken = whats.AdminRefused rules.UserTaken
-what_of refusals.UnknownTab = whats.UnknownTab
-what_of (refusals.Stale current) = whats.Stale current
-what_of refusals.Finished = whats.Finished
-what_of refusals.NotAsked = whats.NotAsked
-what_of (refusals.CredentialMoved had now) = whats.CredentialMoved had now
+abbrev pub what_of : List Fact → Refusal → What
+what_of facts refusals.NotBuilt = whats.BadForm (codes "verb")
+what_of facts refusals.UserTaken = whats.AdminRefused rules.UserTaken
+what_of facts refusals.UnknownClient = whats.UnknownClient
+what_of facts refusals.UnknownTab = whats.UnknownTab
+what_of facts (refusals.Stale current) = whats.Stale current
+what_of facts (refusals.OtherUser tab session) = whats.OtherUser (who_named facts tab) (who_named facts session)
+what_of facts refusals.Finished = whats.Finished
+what_of facts refusals.NotAsked = whats.NotAsked
+what_of facts (refusals.CredentialMoved had now) = whats.CredentialMoved had now
 
 -- what a refused ask is due: the refusal alone
-abbrev pub refused : Refusal → Answer
-refused refusal = only (what_of refusal)
+abbrev pub refused : List Fact → Refusal → Answer
+refused facts refusal = only (what_of facts refusal)
 
 -- the answer where nothing is refused, else the refusal's
-abbrev pub settled : {A : Type 0} → (A → Answer) → Result A Refusal → Answer
-settled answer (Ok x) = answer x
-settled answer (Err refusal) = refused refusal
+abbrev pub settled : {A : Type 0} → List Fact → (A → Answer) → Result A Refusal → Answer
+settled facts answer (Ok x) = answer x
+settled facts answer (Err refusal) = refused facts refusal
 
 -- the same in a known tab, which the reply names
-abbrev pub settled_in : {A : Type 0} → TabKey → (A → Answer) → Result A Refusal → Answer
-settled_in tab answer (Ok x) = answer x
-settled_in tab answer (Err refusal) = record { reply = in_tab tab (what_of refusal); added = [] }
+abbrev pub settled_in : {A : Type 0} → List Fact → TabKey → (A → Answer) → Result A Refusal → Answer
+settled_in facts tab answer (Ok x) = answer x
+settled_in facts tab answer (Err refusal) = record { reply = in_tab tab (what_of facts refusal); added = [] }

@@ -52,7 +52,7 @@ abbrev pub user_added : List ℕ → List (List ℕ) → Finding → UserId → 
 user_added name roles finding user = record { reply = plain (whats.Told (user_text name user)); added = facts.UserPut user name roles ∷ first_password user finding }
 
 unfoldable pub due_user_add : List Fact → List ℕ → Option OtpSecret → List (List ℕ) → List Action → Finding → Answer
-due_user_add chronicle name otp roles actions finding = settled (user_added name roles finding) (new_user chronicle name otp actions)
+due_user_add chronicle name otp roles actions finding = settled chronicle (user_added name roles finding) (new_user chronicle name otp actions)
 
 -- a derived password was hashed as often as it may be
 abbrev pub IsKeepable : Finding → Type 0

@@ -1,30 +1,46 @@
-ghost use Rattle.std.specs.Prelude.{◌≡◌, ◌≤◌, ◌^◌, IfOk};
+ghost use Rattle.std.specs.Prelude.{◌≡◌, ◌≤◌, ◌-◌, ◌^◌, true, IfOk};
+ghost use Rattle.facts.specs.Realms.{has_realm};
 ghost use Rattle.facts.specs.Serials.{last_tab_serial, last_stored_serial};
-ghost use Rattle.login_hall.specs.Due.{due, due_admin, due_form};
+ghost use Rattle.login_hall.specs.Due.{due, due_admin};
+ghost use Rattle.login_hall.specs.Realms.{realm_now};
 ghost use Rattle.login_hall.specs.UserAdd.{IsKeepable};
 
 use crate::answer::Answer;
+use crate::context::Context;
 use crate::new_tab::due_new_tab;
+use crate::page::due_page;
 use crate::post::due_post;
 use crate::refusal::Refusal;
 use crate::refused::{due_bad, refused};
 use crate::user_add::due_user_add;
-use facts::{AdminVerb, Ask, Chronicle, Finding, Form, Solved};
-use login_base::{Code, Memory, RootKey, Steps, TabKey, Words};
+use facts::{AdminVerb, Ask, Chronicle, Facts, Finding, Realm, Solved, current_realm};
+use login_base::{Memory, Steps, Words};
 use std::alloc::Global;
 use std::sync::ledger::Ledger;
+
+/// The realm in force.
+#[tactic(auto, unfolding(crate::specs::Realms::realm_now))]
+pub(crate) fn realm_now<'a, L: Ledger>(chronicle: &'a Chronicle, steps: &mut Steps<L>) -> &'a Realm
+    requires realm { has_realm chronicle.now.list ≡ true }
+    ensures { result.now ≡ realm_now chronicle.now.list }
+{
+    match current_realm(&Facts::of(chronicle), steps) {
+        Some(realm) => realm,
+        None => unreachable!(),
+    }
+}
 
 /// What an administrator's verb is due.
 fn due_admin<L: Ledger>(
     alloc: Global,
-    chronicle: &Chronicle,
+    facts: &Facts<'_>,
     verb: &AdminVerb,
     finding: &Finding,
     steps: &mut Steps<L>,
 ) -> Result<Answer, Memory>
-    requires serial { last_stored_serial chronicle.now.list ≤ 2 ^ 63 }
+    requires serial { last_stored_serial facts.now ≤ 2 ^ 63 - 8 }
     requires keepable { IsKeepable finding.now }
-    ensures { IfOk result (λ answer. answer ≡ due_admin chronicle.now.list verb.now finding.now) }
+    ensures { IfOk result (λ answer. answer ≡ due_admin facts.now verb.now finding.now) }
 {
     match verb {
         AdminVerb::UserAdd {
@@ -33,37 +49,8 @@ fn due_admin<L: Ledger>(
             roles,
             actions,
             ..
-        } => due_user_add(alloc, chronicle, name, otp, roles, actions, finding, steps),
-        _ => refused(alloc, Refusal::NotBuilt),
-    }
-}
-
-/// What a post is due.
-fn due_form<L: Ledger>(
-    alloc: Global,
-    chronicle: &Chronicle,
-    root: &Option<RootKey>,
-    tab: TabKey,
-    code: &Code,
-    form: &Form,
-    finding: &Finding,
-    moment: u64,
-    words: &Words,
-    steps: &mut Steps<L>,
-) -> Result<Answer, Memory>
-    requires tabs { last_tab_serial chronicle.now.list ≤ 2 ^ 63 }
-    requires stored { last_stored_serial chronicle.now.list ≤ 2 ^ 63 }
-    ensures { IfOk result (λ answer. answer ≡ due_form chronicle.now.list root.now tab code.now form.now finding.now moment words.now) }
-{
-    match form {
-        Form::NamePassword {
-            execution,
-            name,
-            ..
-        } => due_post(
-            alloc, chronicle, root, tab, code, execution, name, finding, moment, words, steps,
-        ),
-        _ => refused(alloc, Refusal::NotBuilt),
+        } => due_user_add(alloc, facts, name, otp, roles, actions, finding, steps),
+        _ => refused(alloc, facts, Refusal::NotBuilt, steps),
     }
 }
 
@@ -76,25 +63,32 @@ pub(crate) fn due<L: Ledger>(
     words: &Words,
     steps: &mut Steps<L>,
 ) -> Result<Answer, Memory>
-    requires tabs { last_tab_serial chronicle.now.list ≤ 2 ^ 63 }
-    requires stored { last_stored_serial chronicle.now.list ≤ 2 ^ 63 }
+    requires realm { has_realm chronicle.now.list ≡ true }
+    requires tabs { last_tab_serial chronicle.now.list ≤ 2 ^ 63 - 8 }
+    requires stored { last_stored_serial chronicle.now.list ≤ 2 ^ 63 - 8 }
     ensures { IfOk result (λ answer. answer ≡ due chronicle.now.list solved.now moment words.now) }
 {
     let finding = solved.finding();
+    let facts = Facts::of(chronicle);
+    let context = Context {
+        alloc,
+        realm: realm_now(chronicle, steps),
+        moment,
+        words,
+    };
     match solved.ask() {
         Ask::Bad { at } => due_bad(alloc, at),
-        Ask::NewTab { root, acr, .. } => {
-            due_new_tab(alloc, chronicle, root, acr, moment, words, steps)
+        Ask::NewTab { root, client, acr } => {
+            due_new_tab(chronicle, &context, root, client, acr, steps)
         }
+        Ask::Page { root, tab } => due_page(chronicle, &context, root, *tab, steps),
         Ask::Post {
             root,
             tab,
             code,
             form,
-        } => due_form(
-            alloc, chronicle, root, *tab, code, form, finding, moment, words, steps,
-        ),
-        Ask::Admin { verb, .. } => due_admin(alloc, chronicle, verb, finding, steps),
-        _ => refused(alloc, Refusal::NotBuilt),
+        } => due_post(chronicle, &context, root, *tab, code, form, finding, steps),
+        Ask::Admin { verb, .. } => due_admin(alloc, &facts, verb, finding, steps),
+        _ => refused(alloc, &facts, Refusal::NotBuilt, steps),
     }
 }

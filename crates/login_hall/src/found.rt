@@ -2,23 +2,23 @@ ghost use Rattle.std.specs.Prelude.{◌≡◌, ◌<◌, true};
 ghost use Rattle.facts.specs.declared.finding.Finding.TheVariants as findings;
 ghost use Rattle.facts.specs.declared.finding.PasswordUse.TheVariants.{NoPassword};
 ghost use Rattle.facts.specs.Passwords.{password_use, password_text, emptied, is_solved};
+ghost use Rattle.facts.specs.Realms.{has_realm};
+ghost use Rattle.login_hall.specs.Realms.{realm_now};
 ghost use Rattle.login_hall.specs.Begun.{solution_of, is_work};
-ghost use Rattle.login_hall.specs.Found.{salt_of, target_of, target_password, task_for, finding_of, solved_of, has_password, HasRounds};
+ghost use Rattle.login_hall.specs.Found.{salt_of, who_in, form_target, target_of, target_password, task_for, finding_of, solved_of, has_password, HasRounds, MayHave};
 
 use crate::begun::Begun;
+use crate::due::realm_now;
 use crate::task::Task;
 use crate::work::Work;
 use facts::{
-    Ask, Chronicle, Finding, Form, PasswordUse, Solved, UserPassword, account_named, password_of,
-    password_use, take_password,
+    Ask, Chronicle, Facts, Finding, Form, PasswordUse, Solved, UserPassword, account_named,
+    password_of, password_use, tab_state, take_password,
 };
-use login_base::{Steps, UserId, Words};
+use login_base::{RootKey, Steps, TabKey, UserId, Words};
 use std::alloc::Global;
 use std::marker::Brand;
 use std::sync::ledger::{Blank, Ledger};
-
-/// The iterations of the built-in realm.
-const ITERATIONS: u32 = 100;
 
 /// The salt of an ask: its words 8 and 9.
 fn salt_of(words: &Words) -> [u8; 16]
@@ -31,51 +31,107 @@ fn salt_of(words: &Words) -> [u8; 16]
     salt
 }
 
-/// The account whose password a post checks.
-#[tactic(auto, unfolding(crate::specs::Found::target_of))]
-fn target_of<L: Ledger>(chronicle: &Chronicle, ask: &Ask, steps: &mut Steps<L>) -> Option<UserId>
-    ensures { result ≡ target_of chronicle.now.list ask.now }
+/// Whose login it is in a tab of a root at a moment, where the root has the tab.
+fn who_in<L: Ledger>(
+    facts: &Facts<'_>,
+    moment: u64,
+    root: &Option<RootKey>,
+    tab: TabKey,
+    steps: &mut Steps<L>,
+) -> Option<UserId>
+    ensures { result ≡ who_in facts.now moment root.now tab }
 {
-    match ask {
-        Ask::Post {
-            form: Form::NamePassword { name, .. },
-            ..
-        } => account_named(chronicle, name, steps),
+    let Some(root) = root else {
+        return None;
+    };
+    let state = tab_state(facts, *root, tab, steps);
+    match state.opening {
+        Some(_) => state.who(moment),
+        None => None,
+    }
+}
+
+/// The account whose password a form checks in a tab.
+fn form_target<L: Ledger>(
+    facts: &Facts<'_>,
+    moment: u64,
+    root: &Option<RootKey>,
+    tab: TabKey,
+    form: &Form,
+    steps: &mut Steps<L>,
+) -> Option<UserId>
+    ensures { result ≡ form_target facts.now moment root.now tab form.now }
+{
+    match form {
+        Form::NamePassword { name, .. } => account_named(facts, name, steps),
+        Form::Password { .. } => who_in(facts, moment, root, tab, steps),
         _ => None,
     }
 }
 
-/// The password that a post has to fit.
+/// The account whose password an ask checks.
+#[tactic(auto, unfolding(crate::specs::Found::target_of))]
+fn target_of<L: Ledger>(
+    facts: &Facts<'_>,
+    moment: u64,
+    ask: &Ask,
+    steps: &mut Steps<L>,
+) -> Option<UserId>
+    ensures { result ≡ target_of facts.now moment ask.now }
+{
+    match ask {
+        Ask::Post {
+            root,
+            tab,
+            form,
+            ..
+        } => form_target(facts, moment, root, *tab, form, steps),
+        _ => None,
+    }
+}
+
+/// The password that an ask has to fit.
 #[tactic(auto, unfolding(crate::specs::Found::target_password))]
 fn target_password<L: Ledger>(
-    chronicle: &Chronicle,
+    facts: &Facts<'_>,
+    moment: u64,
     ask: &Ask,
     steps: &mut Steps<L>,
 ) -> Option<UserPassword>
-    ensures { result ≡ target_password chronicle.now.list ask.now }
+    ensures { result ≡ target_password facts.now moment ask.now }
 {
-    match target_of(chronicle, ask, steps) {
-        Some(user) => password_of(chronicle, user, steps),
+    match target_of(facts, moment, ask, steps) {
+        Some(user) => password_of(facts, user, steps),
         None => None,
     }
 }
 
 /// What is to be done with the password of an ask, on a ledger of its own.
 #[tactic(auto, unfolding(crate::specs::Found::task_for))]
-fn task_of<L: Ledger>(chronicle: &Chronicle, ask: &Ask, words: &Words, blank: Blank) -> Option<Task>
+fn task_of<L: Ledger>(
+    chronicle: &Chronicle,
+    moment: u64,
+    ask: &Ask,
+    words: &Words,
+    blank: Blank,
+) -> Option<Task>
+    requires realm { has_realm chronicle.now.list ≡ true }
     requires name { blank.name ≡ L.name }
     requires parts { blank.parts ≡ L.parts }
     requires some { 0 < blank.parts }
-    ensures { result ≡ task_for (password_use ask.now) (target_password chronicle.now.list ask.now) words.now }
+    ensures task { result ≡ task_for (password_use ask.now) (target_password chronicle.now.list moment ask.now) (realm_now chronicle.now.list).iterations words.now }
+    ensures rounds { MayHave result }
 {
     let mut steps = Steps::<L>::new(blank);
-    let target = target_password(chronicle, ask, &mut steps);
+    let facts = Facts::of(chronicle);
     match password_use(ask) {
         PasswordUse::NoPassword => None,
-        PasswordUse::Checks => Some(Task::Check { target }),
+        PasswordUse::Checks => Some(Task::Check {
+            target: target_password(&facts, moment, ask, &mut steps),
+        }),
         PasswordUse::Sets => Some(Task::Derive {
             salt: salt_of(words),
-            iterations: ITERATIONS,
+            iterations: realm_now(chronicle, &mut steps).iterations(),
         }),
     }
 }
@@ -106,12 +162,19 @@ fn ready(ask: Ask) -> Solved
     }
 }
 
-/// What the beginning of an ask over a chronicle comes to.
-pub(crate) fn begun(alloc: Global, chronicle: &Chronicle, ask: Ask, words: &Words) -> Begun
-    ensures solved { solution_of result ≡ solved_of chronicle.now.list ask words.now }
+/// What the beginning of an ask over a chronicle comes to, whose last used moment this is.
+pub(crate) fn begun(
+    alloc: Global,
+    chronicle: &Chronicle,
+    moment: u64,
+    ask: Ask,
+    words: &Words,
+) -> Begun
+    requires realm { has_realm chronicle.now.list ≡ true }
+    ensures solved { solution_of result ≡ solved_of chronicle.now.list moment ask words.now }
     ensures work { is_work result ≡ has_password (password_use ask) }
 {
-    match task_of::<Brand>(chronicle, &ask, words, Blank::new(1)) {
+    match task_of::<Brand>(chronicle, moment, &ask, words, Blank::new(1)) {
         Some(task) => Begun::Work(work_of(alloc, ask, task)),
         None => Begun::Ready(ready(ask)),
     }

@@ -1,25 +1,32 @@
-ghost use Rattle.std.specs.Prelude.{◌≡◌, ◌<◌, ◌≤◌, ◌+◌, ◌-◌, ◌^◌, [], ◌∷◌, ◌++◌, OnOk, IfOk, vec_len, vec_capacity};
+ghost use Rattle.std.specs.Prelude.{◌≡◌, ◌<◌, ◌≤◌, ◌+◌, ◌-◌, ◌^◌, [], ◌∷◌, ◌++◌, ◌&&◌, nat_le, true, OnOk, IfOk, vec_len, vec_capacity};
 ghost use Rattle.facts.specs.declared.fact.Fact.TheVariants.{Mark};
 ghost use Rattle.facts.specs.Passwords.{password_use};
+ghost use Rattle.facts.specs.Realms.{has_realm, last_version};
 ghost use Rattle.facts.specs.Serials.{last_tab_serial, last_stored_serial};
 ghost use Rattle.login_hall.specs.Begun.{solution_of, is_work};
 ghost use Rattle.login_hall.specs.Found.{solved_of, has_password};
+ghost use Rattle.login_hall.specs.Growth.{last_moment};
 ghost use Rattle.login_hall.specs.HallState.{facts_of, IsUnchanged};
 ghost use Rattle.login_hall.specs.Legal.{Follows, entry_at, entry_due, Raises};
+ghost use Rattle.login_hall.specs.Start.{IsStart, IsPlayable};
 
 use crate::answer::Answer;
 use crate::begun::Begun;
 use crate::due::due;
 use crate::found::begun;
 use crate::proposal::Proposal;
-use facts::{Ask, Chronicle, Entry, Fact, Reply, Solved};
+use crate::start::{Start, start_facts};
+use facts::{Ask, Chronicle, Entry, Fact, Realm, Reply, Solved};
 use login_base::{Duplicate, Memory, Steps, Words, discard, put};
 use std::alloc::Global;
-use std::marker::Model;
-use std::sync::ledger::Ledger;
+use std::marker::{Brand, Model};
+use std::sync::ledger::{Blank, Ledger};
 
 /// The last moment that there is, in milliseconds.
 const LAST_MOMENT: u64 = (1 << 53) - 1;
+
+/// The last serial after which an ask finds those that it may need.
+const LAST_SERIAL: u64 = (1 << 63) - 8;
 
 /// A base of facts, and a journal of the asks over it that is legal: each entry is the one that
 /// was due.
@@ -36,11 +43,15 @@ pub struct Hall {
 
 impl Model for Hall {
     ghost use Rattle.std.specs.Prelude.{◌-◌, take, vec_len, vec_capacity};
+    ghost use Rattle.std.specs.Coded.{codes};
+    ghost use Rattle.flow_tree.specs.contracts.exec.Exec as exec;
     ghost use Rattle.login_hall.specs.Begun.{solution_of, is_work};
     ghost use Rattle.login_hall.specs.Found.{solved_of, has_password};
     ghost use Rattle.login_hall.specs.HallState.{HallState, IsSound};
 
     ghost Value = { HallState };
+
+    ghost coded = { Prim.hlevel (codes, exec.the_row.coded) };
 
     ghost view = { λ h. record { base = take h.based h.facts.list; journal = h.journal.items; waiting = h.facts.waiting; room = vec_capacity h.journal - vec_len h.journal } };
 
@@ -90,8 +101,9 @@ fn proposal_at<L: Ledger>(
     solved: Solved,
     steps: &mut Steps<L>,
 ) -> Result<Proposal, Memory>
-    requires tabs { last_tab_serial facts.now.list ≤ 2 ^ 63 }
-    requires stored { last_stored_serial facts.now.list ≤ 2 ^ 63 }
+    requires realm { has_realm facts.now.list ≡ true }
+    requires tabs { last_tab_serial facts.now.list ≤ 2 ^ 63 - 8 }
+    requires stored { last_stored_serial facts.now.list ≤ 2 ^ 63 - 8 }
     ensures entry { IfOk result (λ p. p ≡ entry_at facts.now.list caller moment words solved) }
     ensures raises { IfOk result (λ p. Raises facts.now.list (facts.now.list ++ p.added)) }
 {
@@ -141,13 +153,52 @@ impl Hall {
         })
     }
 
+    /// What a start adds to the base: a realm that isn't the one in force, or without one the
+    /// built-in realm where none is, and then the users of the realm whose names have no account.
+    pub fn start(&mut self, realm: Option<Realm>) -> Result<Start, Memory>
+        requires fresh { self.old.journal ≡ [] }
+        requires playable { IsPlayable realm }
+        requires stored { last_stored_serial self.old.base ≤ 2 ^ 63 - 2 ^ 20 }
+        requires version { last_version self.old.base ≤ 2 ^ 63 - 2 ^ 20 }
+        ensures start { IfOk result (λ start. IsStart self.old.base realm start) }
+        ensures waiting { IfOk result (λ start. self.new.waiting ≡ start) }
+        ensures realm { IfOk result (λ start. has_realm (self.old.base ++ start) ≡ true) }
+        ensures same { IsUnchanged self.old self.new }
+    {
+        let facts = start_facts::<Brand>(self.alloc, &self.facts, realm, Blank::new(1))?;
+        self.facts.reserve(facts.as_slice())?;
+        Ok(Start { facts })
+    }
+
+    /// Ends the base with the facts of the last start. It takes no memory.
+    pub fn started(&mut self, start: Start)
+        requires fresh { self.old.journal ≡ [] }
+        requires waiting { self.old.waiting ≡ start }
+        ensures base { self.new.base ≡ self.old.base ++ start }
+        ensures journal { self.new.journal ≡ [] }
+    {
+        let Start { facts } = start;
+        self.facts.add();
+        self.based = self.facts.len();
+        discard(facts);
+    }
+
     /// Begins an ask: looks up what its password is to be checked against, or a salt for it. It
     /// decides nothing, and takes no memory.
     pub fn begin(&self, ask: Ask, words: &Words) -> Begun
-        ensures solved { solution_of result ≡ solved_of (facts_of self.now) ask words.now }
+        requires realm { has_realm (facts_of self.now) ≡ true }
+        ensures solved { solution_of result ≡ solved_of (facts_of self.now) (last_moment self.now.base self.now.journal) ask words.now }
         ensures work { is_work result ≡ has_password (password_use ask) }
     {
-        begun(self.alloc, &self.facts, ask, words)
+        begun(self.alloc, &self.facts, self.last, ask, words)
+    }
+
+    /// Whether both counters leave serials for one more ask.
+    pub fn has_serials(&self) -> bool
+        ensures value { result ≡ (nat_le (last_tab_serial (facts_of self.now)) (2 ^ 63 - 8) && nat_le (last_stored_serial (facts_of self.now)) (2 ^ 63 - 8)) }
+    {
+        self.facts.last_tab_serial() <= LAST_SERIAL
+            && self.facts.last_stored_serial() <= LAST_SERIAL
     }
 
     /// The entry that an ask is due, for which all memory is taken here. It counts a step for each
@@ -160,6 +211,7 @@ impl Hall {
         solved: Solved,
         steps: &mut Steps<L>,
     ) -> Result<Proposal, Memory>
+        requires realm { has_realm (facts_of self.old) ≡ true }
         requires tabs { last_tab_serial (facts_of self.old) ≤ 2 ^ 63 - 8 }
         requires stored { last_stored_serial (facts_of self.old) ≤ 2 ^ 63 - 8 }
         ensures entry { IfOk result (λ p. p ≡ entry_due self.old.base self.old.journal caller moment words solved) }
@@ -190,6 +242,7 @@ impl Hall {
         ensures base { self.new.base ≡ self.old.base }
         ensures journal { self.new.journal ≡ self.old.journal ++ proposal ∷ [] }
         ensures facts { facts_of self.new ≡ facts_of self.old ++ proposal.added }
+        ensures realm { has_realm (facts_of self.old) ≡ true → has_realm (facts_of self.new) ≡ true }
     {
         let Proposal { entry, reply } = proposal;
         self.last = entry.moment;

@@ -1,45 +1,30 @@
-ghost use Rattle.std.specs.Prelude.{◌≡◌, ◌≤◌, ◌^◌, ◌++◌, IfOk, OnOk};
+ghost use Rattle.std.specs.Prelude.{◌≡◌, ◌≤◌, ◌-◌, ◌^◌, ◌++◌, IfOk, OnOk};
 ghost use Rattle.facts.specs.Serials.{last_tab_serial, last_stored_serial};
-ghost use Rattle.login_hall.specs.NewTab.{form_need};
-ghost use Rattle.login_hall.specs.Post.{known_tab, is_code, current_code, unfinished, asked, serial_of, had_by, unmoved, password_named, check_of, posted, completed, failure_of, wrong_credentials, checked, due_in_tab, due_post};
+ghost use Rattle.login_hall.specs.Post.{is_code, current_code, not_other, has_need, is_asked, serial_of, had_by, unmoved, password_check, name_check, check_of, target_password, posted, after_evidence, accepted, failure_of, wrong_credentials, checked, post_where, due_post};
+ghost use Rattle.login_hall.specs.Progress.{asked_in};
 
 use crate::answer::Answer;
 use crate::check::Check;
-use crate::ids::{code_at, session_at};
-use crate::new_tab::{form_asked, form_id};
+use crate::context::Context;
+use crate::form::{Passing, is_of, named_by, target_of};
+use crate::ids::next_code;
+use crate::known_tab::KnownTab;
+use crate::outcome::Outcome;
+use crate::page::answered_in;
+use crate::progress::{Progress, progress_of};
 use crate::refusal::Refusal;
 use crate::refused::{in_tab, refused, refused_in};
+use crate::sequences::joined;
+use crate::shown::{rendered, shown};
+use crate::visit::{known_tab, not_split, same_user, unfinished, user_of};
 use facts::{
-    Chronicle, Fact, Finding, Kind, Next, UserPassword, What, Who, account_named, is_finished,
-    is_known, last_code, last_stored_serial, last_tab_serial, password_of,
+    Chronicle, Fact, Facts, Finding, Form, Need, Next, UserPassword, What, password_of, tab_state,
 };
-use login_base::{
-    Code, Duplicate, Memory, Name, RootKey, Sequence, Steps, TabKey, UserId, Words, same_id,
-};
+use login_base::{Code, Memory, RootKey, Sequence, Steps, TabKey, UserId, discard, same_id};
 use std::alloc::Global;
 use std::sync::ledger::Ledger;
 
-/// How long a session of the built-in realm lives without use, in seconds.
-const SESSION_IDLE: u64 = 1800;
-
-/// How long a session of the built-in realm lives at most, in seconds.
-const SESSION_MAX: u64 = 36_000;
-
-/// A root is given, and it has the tab.
-#[tactic(auto, unfolding(crate::specs::Post::known_tab))]
-fn known_tab<L: Ledger>(
-    chronicle: &Chronicle,
-    root: &Option<RootKey>,
-    tab: TabKey,
-    steps: &mut Steps<L>,
-) -> Result<RootKey, Refusal>
-    ensures { result ≡ known_tab chronicle.now.list root.now tab }
-{
-    match root {
-        Some(root) if is_known(chronicle, *root, tab, steps) => Ok(*root),
-        _ => Err(Refusal::UnknownTab),
-    }
-}
+// ---- refusals, in their order
 
 fn is_code(code: &Code, shown: &Option<Code>) -> bool
     ensures { result ≡ is_code code.now shown.now }
@@ -51,16 +36,10 @@ fn is_code(code: &Code, shown: &Option<Code>) -> bool
 }
 
 /// The code is the one that was shown last.
-#[tactic(auto, unfolding(crate::specs::Post::current_code))]
-fn current_code<L: Ledger>(
-    chronicle: &Chronicle,
-    tab: TabKey,
-    code: &Code,
-    steps: &mut Steps<L>,
-) -> Result<(), Refusal>
-    ensures { result ≡ current_code chronicle.now.list tab code.now }
+fn current_code(known: &KnownTab, code: &Code) -> Result<(), Refusal>
+    ensures { result ≡ current_code known.now code.now }
 {
-    let current = last_code(chronicle, tab, steps);
+    let current = known.state.code;
     if is_code(code, &current) {
         Ok(())
     } else {
@@ -68,27 +47,24 @@ fn current_code<L: Ledger>(
     }
 }
 
-/// The tab hasn't completed.
-#[tactic(auto, unfolding(crate::specs::Post::unfinished))]
-fn unfinished<L: Ledger>(
-    chronicle: &Chronicle,
-    tab: TabKey,
-    steps: &mut Steps<L>,
-) -> Result<(), Refusal>
-    ensures { result ≡ unfinished chronicle.now.list tab }
+/// The user whom the form names is the one of the live session.
+fn not_other(moment: u64, known: &KnownTab, named: Option<UserId>) -> Result<(), Refusal>
+    ensures { result ≡ not_other moment known.now named }
 {
-    if is_finished(chronicle, tab, steps) {
-        return Err(Refusal::Finished);
-    }
-    Ok(())
+    same_user(named, user_of(known.state.live_session(moment)))
 }
 
-/// The execution is the one that the built-in realm asks.
-#[tactic(auto, unfolding(crate::specs::Post::asked))]
-fn asked(execution: &Name) -> Result<(), Refusal>
-    ensures { result ≡ asked execution.now }
+fn has_need(asked: &[Need], form: &Form) -> bool
+    ensures { result ≡ has_need asked.now form.now }
 {
-    if execution.as_bytes() == b"form".as_slice() {
+    asked.iter().any(|need| is_of(need, form))
+}
+
+/// The form is one of an execution that is asked.
+fn is_asked(asked: &[Need], form: &Form) -> Result<(), Refusal>
+    ensures { result ≡ is_asked asked.now form.now }
+{
+    if has_need(asked, form) {
         Ok(())
     } else {
         Err(Refusal::NotAsked)
@@ -113,7 +89,7 @@ fn had_by(finding: &Finding) -> u64
     }
 }
 
-/// The password was checked against the one that the named user has.
+/// The password was checked against the one that the target has.
 #[tactic(auto, unfolding(crate::specs::Post::unmoved))]
 fn unmoved(password: &Option<UserPassword>, finding: &Finding) -> Result<(), Refusal>
     ensures { result ≡ unmoved password.now finding.now }
@@ -127,25 +103,12 @@ fn unmoved(password: &Option<UserPassword>, finding: &Finding) -> Result<(), Ref
     }
 }
 
-/// The password that the named user has.
-#[tactic(auto, unfolding(crate::specs::Post::password_named))]
-fn password_named<L: Ledger>(
-    chronicle: &Chronicle,
-    name: &Name,
-    steps: &mut Steps<L>,
-) -> Option<UserPassword>
-    ensures { result ≡ password_named chronicle.now.list name.now }
-{
-    match account_named(chronicle, name, steps) {
-        Some(user) => password_of(chronicle, user, steps),
-        None => None,
-    }
-}
+// ---- the check
 
 /// The user is there, has a password, and it fits.
-#[tactic(auto, unfolding(crate::specs::Post::check_of))]
-fn check_of(user: Option<UserId>, password: Option<UserPassword>, finding: &Finding) -> Check
-    ensures { result ≡ check_of user password finding.now }
+#[tactic(auto, unfolding(crate::specs::Post::password_check))]
+fn password_check(user: Option<UserId>, password: Option<UserPassword>, finding: &Finding) -> Check
+    ensures { result ≡ password_check user password finding.now }
 {
     match (user, password, finding) {
         (Some(user), Some(kept), Finding::Checked { fits: true, .. }) => Check::Fits {
@@ -156,82 +119,115 @@ fn check_of(user: Option<UserId>, password: Option<UserPassword>, finding: &Find
     }
 }
 
-/// The check of a post in a known tab, or the first refusal.
+/// A name alone has to be that of a user.
+fn name_check(named: Option<UserId>) -> Check
+    ensures { result ≡ name_check named }
+{
+    match named {
+        Some(user) => Check::Fits {
+            user,
+            credential: 0,
+        },
+        None => Check::Wrong { user: None },
+    }
+}
+
+fn check_of(
+    named: Option<UserId>,
+    target: Option<UserId>,
+    password: Option<UserPassword>,
+    form: &Form,
+    finding: &Finding,
+) -> Check
+    ensures { result ≡ check_of named target password form.now finding.now }
+{
+    match form {
+        Form::Username { .. } => name_check(named),
+        _ => password_check(target, password, finding),
+    }
+}
+
+/// The password that the target has.
+#[tactic(auto, unfolding(crate::specs::Post::target_password))]
+fn target_password<L: Ledger>(
+    facts: &Facts<'_>,
+    target: Option<UserId>,
+    steps: &mut Steps<L>,
+) -> Option<UserPassword>
+    ensures { result ≡ target_password facts.now target }
+{
+    match target {
+        Some(user) => password_of(facts, user, steps),
+        None => None,
+    }
+}
+
+/// The check of a post in a known tab where these executions are asked, or the first refusal.
 #[tactic(auto, unfolding(crate::specs::Post::posted))]
 fn posted<L: Ledger>(
-    chronicle: &Chronicle,
-    tab: TabKey,
+    facts: &Facts<'_>,
+    moment: u64,
+    known: &KnownTab,
+    asked: &[Need],
     code: &Code,
-    execution: &Name,
-    name: &Name,
+    form: &Form,
     finding: &Finding,
     steps: &mut Steps<L>,
 ) -> Result<Check, Refusal>
-    ensures { result ≡ posted chronicle.now.list tab code.now execution.now name.now finding.now }
+    ensures { result ≡ posted facts.now moment known.now asked.now code.now form.now finding.now }
 {
-    current_code(chronicle, tab, code, steps)?;
-    unfinished(chronicle, tab, steps)?;
-    asked(execution)?;
-    let password = password_named(chronicle, name, steps);
+    let named = named_by(facts, form, steps);
+    let target = target_of(named, known.state.who(moment), form);
+    let password = target_password(facts, target, steps);
+    current_code(known, code)?;
+    not_split(moment, known)?;
+    not_other(moment, known, named)?;
+    unfinished(known)?;
+    is_asked(asked, form)?;
     unmoved(&password, finding)?;
-    Ok(check_of(account_named(chronicle, name, steps), password, finding))
+    Ok(check_of(named, target, password, form, finding))
 }
 
-/// The evidence of the post is added, and the login completes in a new session.
-#[tactic(auto, unfolding(crate::specs::Post::completed))]
-fn completed<L: Ledger>(
-    alloc: Global,
+// ---- answers
+
+/// The evidence, and what the tab shows behind it.
+fn after_evidence(evidence: Sequence<Fact>, outcome: Outcome) -> Result<Outcome, Memory>
+    ensures { IfOk result (λ after. after ≡ after_evidence evidence outcome) }
+{
+    let Outcome { what, added } = outcome;
+    let added = joined(evidence, added)?;
+    Ok(Outcome { what, added })
+}
+
+/// The evidence is added, and the tab shows what it comes to.
+#[tactic(auto, unfolding(crate::specs::Post::accepted))]
+fn accepted<L: Ledger>(
     chronicle: &Chronicle,
-    root: RootKey,
-    tab: TabKey,
-    name: &Name,
+    context: &Context<'_>,
+    known: &KnownTab,
+    form: &Form,
     user: UserId,
     credential: u64,
-    moment: u64,
-    words: &Words,
     steps: &mut Steps<L>,
 ) -> Result<Answer, Memory>
-    requires { last_stored_serial chronicle.now.list ≤ 2 ^ 63 }
-    ensures { IfOk result (λ answer. answer ≡ completed chronicle.now.list root tab name.now user credential moment words.now) }
+    requires tabs { last_tab_serial chronicle.now.list ≤ 2 ^ 63 - 8 }
+    requires stored { last_stored_serial chronicle.now.list ≤ 2 ^ 63 - 8 }
+    ensures { IfOk result (λ answer. answer ≡ accepted chronicle.now.list context.now known.now form.now user credential) }
 {
-    let session = session_at(last_stored_serial(chronicle, steps) + 1, words);
-    let mut added = Sequence::new(alloc);
-    added.push(Fact::Named { tab, user })?;
-    added.push(Fact::Passed {
-        tab,
-        execution: form_id(alloc)?,
+    let passing = Passing {
+        tab: known.tab,
         user,
-        kind: Kind::Form,
         credential,
-        moment,
-    })?;
-    added.push(Fact::Session {
-        session,
-        root: Some(root),
-        user,
-        moment,
-        idle: SESSION_IDLE,
-        max: SESSION_MAX,
-    })?;
-    added.push(Fact::Completed {
-        tab,
-        user,
-        session,
-        moment,
-    })?;
-    let who = Who {
-        id: user,
-        name: name.duplicate(alloc)?,
+        moment: context.moment,
     };
-    let what = What::Done {
-        session,
-        user: who,
-        level: 0,
+    let evidence = passing.evidence(context.alloc, form)?;
+    let more = Facts::with(chronicle, evidence.as_slice());
+    let after = KnownTab {
+        state: tab_state(&more, known.root, known.tab, steps),
+        ..*known
     };
-    Ok(Answer {
-        reply: in_tab(tab, what),
-        added,
-    })
+    let outcome = shown(&more, context, &after, steps)?;
+    Ok(answered_in(known.tab, after_evidence(evidence, outcome)?))
 }
 
 /// Adds a failure where the user is there.
@@ -246,113 +242,123 @@ fn add_failure(added: &mut Sequence<Fact>, user: Option<UserId>, moment: u64) ->
 
 /// The same page again, with a new code.
 #[tactic(auto, unfolding(crate::specs::Post::wrong_credentials))]
-fn wrong_credentials<L: Ledger>(
-    alloc: Global,
-    chronicle: &Chronicle,
+fn wrong_credentials(
+    facts: &Facts<'_>,
+    context: &Context<'_>,
     tab: TabKey,
+    asked: Sequence<Need>,
     user: Option<UserId>,
-    moment: u64,
-    words: &Words,
-    steps: &mut Steps<L>,
 ) -> Result<Answer, Memory>
-    requires { last_tab_serial chronicle.now.list ≤ 2 ^ 63 }
-    ensures { IfOk result (λ answer. answer ≡ wrong_credentials chronicle.now.list tab user moment words.now) }
+    requires { last_tab_serial facts.now ≤ 2 ^ 63 }
+    ensures { IfOk result (λ answer. answer ≡ wrong_credentials facts.now context.now tab asked user) }
 {
-    let code = code_at(last_tab_serial(chronicle, steps) + 1, words);
-    let mut added = Sequence::new(alloc);
-    add_failure(&mut added, user, moment)?;
-    added.push(Fact::Rendered {
-        tab,
-        code,
-        action: None,
-        offer: [0; 32],
-    })?;
-    let next = Next::Form {
-        code,
-        asked: form_asked(alloc)?,
-    };
+    let code = next_code(facts, context.words);
+    let mut added = Sequence::new(context.alloc);
+    add_failure(&mut added, user, context.moment)?;
+    added.push(rendered(tab, code))?;
+    let next = Next::Form { code, asked };
     Ok(Answer {
         reply: in_tab(tab, What::BadCredentials { next }),
         added,
     })
 }
 
+/// What a checked post is due.
 #[tactic(auto, unfolding(crate::specs::Post::checked))]
 fn checked<L: Ledger>(
-    alloc: Global,
     chronicle: &Chronicle,
-    root: RootKey,
-    tab: TabKey,
-    name: &Name,
-    moment: u64,
-    words: &Words,
+    context: &Context<'_>,
+    known: &KnownTab,
+    asked: Sequence<Need>,
+    form: &Form,
     check: Check,
     steps: &mut Steps<L>,
 ) -> Result<Answer, Memory>
-    requires tabs { last_tab_serial chronicle.now.list ≤ 2 ^ 63 }
-    requires stored { last_stored_serial chronicle.now.list ≤ 2 ^ 63 }
-    ensures { IfOk result (λ answer. answer ≡ checked chronicle.now.list root tab name.now moment words.now check) }
+    requires tabs { last_tab_serial chronicle.now.list ≤ 2 ^ 63 - 8 }
+    requires stored { last_stored_serial chronicle.now.list ≤ 2 ^ 63 - 8 }
+    ensures { IfOk result (λ answer. answer ≡ checked chronicle.now.list context.now known.now asked form.now check) }
 {
     match check {
-        Check::Fits { user, credential } => completed(
-            alloc, chronicle, root, tab, name, user, credential, moment, words, steps,
-        ),
+        Check::Fits { user, credential } => {
+            discard(asked);
+            accepted(chronicle, context, known, form, user, credential, steps)
+        }
         Check::Wrong { user } => {
-            wrong_credentials(alloc, chronicle, tab, user, moment, words, steps)
+            wrong_credentials(&Facts::of(chronicle), context, known.tab, asked, user)
         }
     }
 }
 
-/// What the post is due in a known tab of a root.
-#[tactic(auto, unfolding(crate::specs::Post::due_in_tab))]
-fn due_in_tab<L: Ledger>(
-    alloc: Global,
+/// What a post is due in a known tab where these executions are asked.
+#[tactic(auto, unfolding(crate::specs::Post::post_where))]
+fn post_where<L: Ledger>(
     chronicle: &Chronicle,
-    tab: TabKey,
+    context: &Context<'_>,
     code: &Code,
-    execution: &Name,
-    name: &Name,
+    form: &Form,
     finding: &Finding,
-    moment: u64,
-    words: &Words,
-    root: RootKey,
+    known: &KnownTab,
+    asked: Sequence<Need>,
     steps: &mut Steps<L>,
 ) -> Result<Answer, Memory>
-    requires tabs { last_tab_serial chronicle.now.list ≤ 2 ^ 63 }
-    requires stored { last_stored_serial chronicle.now.list ≤ 2 ^ 63 }
-    ensures { IfOk result (λ answer. answer ≡ due_in_tab chronicle.now.list tab code.now execution.now name.now finding.now moment words.now root) }
+    requires tabs { last_tab_serial chronicle.now.list ≤ 2 ^ 63 - 8 }
+    requires stored { last_stored_serial chronicle.now.list ≤ 2 ^ 63 - 8 }
+    ensures { IfOk result (λ answer. answer ≡ post_where chronicle.now.list context.now code.now form.now finding.now known.now asked) }
 {
-    match posted(chronicle, tab, code, execution, name, finding, steps) {
-        Ok(check) => checked(
-            alloc, chronicle, root, tab, name, moment, words, check, steps,
-        ),
-        Err(refusal) => refused_in(alloc, tab, refusal),
+    let facts = Facts::of(chronicle);
+    let moment = context.moment;
+    match posted(
+        &facts,
+        moment,
+        known,
+        asked.as_slice(),
+        code,
+        form,
+        finding,
+        steps,
+    ) {
+        Ok(check) => checked(chronicle, context, known, asked, form, check, steps),
+        Err(refusal) => {
+            discard(asked);
+            refused_in(context.alloc, &facts, known.tab, refusal, steps)
+        }
     }
 }
 
-/// What the post of a name and a password is due.
+/// The executions that a progress asks.
+fn asked_in(alloc: Global, progress: Progress) -> Sequence<Need>
+    ensures { result ≡ asked_in progress }
+{
+    match progress {
+        Progress::Asked { asked } => asked,
+        _ => Sequence::new(alloc),
+    }
+}
+
+/// What a post is due.
 #[tactic(auto, unfolding(crate::specs::Post::due_post))]
 pub(crate) fn due_post<L: Ledger>(
-    alloc: Global,
     chronicle: &Chronicle,
+    context: &Context<'_>,
     root: &Option<RootKey>,
     tab: TabKey,
     code: &Code,
-    execution: &Name,
-    name: &Name,
+    form: &Form,
     finding: &Finding,
-    moment: u64,
-    words: &Words,
     steps: &mut Steps<L>,
 ) -> Result<Answer, Memory>
-    requires tabs { last_tab_serial chronicle.now.list ≤ 2 ^ 63 }
-    requires stored { last_stored_serial chronicle.now.list ≤ 2 ^ 63 }
-    ensures { IfOk result (λ answer. answer ≡ due_post chronicle.now.list root.now tab code.now execution.now name.now finding.now moment words.now) }
+    requires tabs { last_tab_serial chronicle.now.list ≤ 2 ^ 63 - 8 }
+    requires stored { last_stored_serial chronicle.now.list ≤ 2 ^ 63 - 8 }
+    ensures { IfOk result (λ answer. answer ≡ due_post chronicle.now.list context.now root.now tab code.now form.now finding.now) }
 {
-    match known_tab(chronicle, root, tab, steps) {
-        Ok(root) => due_in_tab(
-            alloc, chronicle, tab, code, execution, name, finding, moment, words, root, steps,
-        ),
-        Err(refusal) => refused(alloc, refusal),
-    }
+    let facts = Facts::of(chronicle);
+    let known = match known_tab(&facts, root, tab, steps) {
+        Ok(known) => known,
+        Err(refusal) => return refused(context.alloc, &facts, refusal, steps),
+    };
+    let progress = progress_of(context.alloc, &facts, context.moment, &known, steps)?;
+    let asked = asked_in(context.alloc, progress);
+    post_where(
+        chronicle, context, code, form, finding, &known, asked, steps,
+    )
 }

@@ -10,9 +10,13 @@ pub struct Proposal {
 
 impl Model for Proposal {
     ghost use Rattle.std.specs.Prelude.{◌≡◌};
+    ghost use Rattle.std.specs.Coded.{codes};
+    ghost use Rattle.flow_tree.specs.contracts.exec.Exec as exec;
     ghost use Rattle.facts.specs.declared.entry.Entry.{Entry as EntryValue};
 
     ghost Value = { EntryValue };
+
+    ghost coded = { Prim.hlevel (codes, exec.the_row.coded) };
 
     ghost view = { λ p. p.entry };
 

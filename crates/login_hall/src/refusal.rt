@@ -1,4 +1,4 @@
-use login_base::Code;
+use login_base::{Code, UserId};
 
 /// Why an ask is refused.
 #[derive(Clone, Copy, Debug, PartialEq, Eq)]
@@ -7,13 +7,17 @@ pub(crate) enum Refusal {
     NotBuilt,
     /// An account has the name already.
     UserTaken,
+    /// The realm has no such client.
+    UnknownClient,
     /// The root has no such tab.
     UnknownTab,
     /// The code isn't the one that was shown last.
     Stale { current: Option<Code> },
+    /// The user of the tab, or of the post, isn't the one of the root's live session.
+    OtherUser { tab: UserId, session: UserId },
     /// The tab has completed.
     Finished,
-    /// The execution isn't asked.
+    /// The execution isn't asked, or takes another form.
     NotAsked,
     /// The password was checked against another one than the user's.
     CredentialMoved { had: u64, now: u64 },

@@ -7,8 +7,8 @@ use crate::answer::Answer;
 use crate::refusal::Refusal;
 use crate::refused::{plain, refused};
 use facts::{
-    Action, Chronicle, Fact, Finding, OtpSecret, PasswordHash, Secret, SecretKind, What,
-    account_named, last_stored_serial,
+    Action, Fact, Facts, Finding, OtpSecret, PasswordHash, Secret, SecretKind, What, account_named,
+    last_stored_serial,
 };
 use login_base::{Duplicate, Memory, Name, Sequence, Steps, UserId};
 use std::alloc::Global;
@@ -27,14 +27,10 @@ fn without_setup(otp: &Option<OtpSecret>, actions: &Sequence<Action>) -> Result<
 
 /// No account has the name.
 #[tactic(auto, unfolding(crate::specs::UserAdd::name_free))]
-fn name_free<L: Ledger>(
-    chronicle: &Chronicle,
-    name: &Name,
-    steps: &mut Steps<L>,
-) -> Result<(), Refusal>
-    ensures { result ≡ name_free chronicle.now.list name.now }
+fn name_free<L: Ledger>(facts: &Facts<'_>, name: &Name, steps: &mut Steps<L>) -> Result<(), Refusal>
+    ensures { result ≡ name_free facts.now name.now }
 {
-    if account_named(chronicle, name, steps).is_some() {
+    if account_named(facts, name, steps).is_some() {
         return Err(Refusal::UserTaken);
     }
     Ok(())
@@ -43,19 +39,19 @@ fn name_free<L: Ledger>(
 /// The new account, or the first refusal.
 #[tactic(auto, unfolding(crate::specs::UserAdd::new_user))]
 fn new_user<L: Ledger>(
-    chronicle: &Chronicle,
+    facts: &Facts<'_>,
     name: &Name,
     otp: &Option<OtpSecret>,
     actions: &Sequence<Action>,
     steps: &mut Steps<L>,
 ) -> Result<UserId, Refusal>
-    requires { last_stored_serial chronicle.now.list ≤ 2 ^ 63 }
-    ensures user { result ≡ new_user chronicle.now.list name.now otp.now actions.now }
-    ensures small { IfOk result (λ user. user.0 ≤ 2 ^ 63 + 1) }
+    requires { last_stored_serial facts.now ≤ 2 ^ 63 - 8 }
+    ensures user { result ≡ new_user facts.now name.now otp.now actions.now }
+    ensures small { IfOk result (λ user. user.0 ≤ 2 ^ 63 - 7) }
 {
     without_setup(otp, actions)?;
-    name_free(chronicle, name, steps)?;
-    Ok(UserId(last_stored_serial(chronicle, steps) + 1))
+    name_free(facts, name, steps)?;
+    Ok(UserId(last_stored_serial(facts) + 1))
 }
 
 fn user_text(alloc: Global, name: &Name, user: UserId) -> Result<Sequence<u8>, Memory>
@@ -137,7 +133,7 @@ fn user_added(
 #[tactic(auto, unfolding(crate::specs::UserAdd::due_user_add))]
 pub(crate) fn due_user_add<L: Ledger>(
     alloc: Global,
-    chronicle: &Chronicle,
+    facts: &Facts<'_>,
     name: &Name,
     otp: &Option<OtpSecret>,
     roles: &Sequence<Name>,
@@ -145,12 +141,12 @@ pub(crate) fn due_user_add<L: Ledger>(
     finding: &Finding,
     steps: &mut Steps<L>,
 ) -> Result<Answer, Memory>
-    requires serial { last_stored_serial chronicle.now.list ≤ 2 ^ 63 }
+    requires serial { last_stored_serial facts.now ≤ 2 ^ 63 - 8 }
     requires keepable { IsKeepable finding.now }
-    ensures { IfOk result (λ answer. answer ≡ due_user_add chronicle.now.list name.now otp.now roles.now actions.now finding.now) }
+    ensures { IfOk result (λ answer. answer ≡ due_user_add facts.now name.now otp.now roles.now actions.now finding.now) }
 {
-    match new_user(chronicle, name, otp, actions, steps) {
+    match new_user(facts, name, otp, actions, steps) {
         Ok(user) => user_added(alloc, name, roles, finding, user),
-        Err(refusal) => refused(alloc, refusal),
+        Err(refusal) => refused(alloc, facts, refusal, steps),
     }
 }

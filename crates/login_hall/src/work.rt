@@ -20,11 +20,15 @@ pub struct Work {
 
 impl Model for Work {
     ghost use Rattle.std.specs.Prelude.{IsTrue};
+    ghost use Rattle.std.specs.Coded.{codes};
+    ghost use Rattle.flow_tree.specs.contracts.exec.Exec as exec;
     ghost use Rattle.facts.specs.Passwords.{is_solved};
     ghost use Rattle.facts.specs.Solved.{SolvedAsk};
     ghost use Rattle.login_hall.specs.Found.{finding_of, HasRounds};
 
     ghost Value = { SolvedAsk };
+
+    ghost coded = { Prim.hlevel (codes, exec.the_row.coded) };
 
     ghost view = { λ w. record { ask = w.ask; finding = finding_of w.task w.password } };
 

@@ -1,0 +1,110 @@
+//! What the forms of a post are: whom each names, whose password it gives, and which execution it
+//! answers.
+ghost use Rattle.std.specs.Prelude.{◌≡◌, IfOk};
+ghost use Rattle.login_hall.specs.Forms.{named_by, target_of, is_need, is_of, named, passed, evidence_of};
+
+use facts::{Fact, Facts, Form, Need, account_named};
+use flow_tree::Kind;
+use login_base::{Duplicate, Memory, Name, Sequence, Steps, TabKey, UserId};
+use std::alloc::Global;
+use std::sync::ledger::Ledger;
+
+/// The user whom a form names.
+pub(crate) fn named_by<L: Ledger>(
+    facts: &Facts<'_>,
+    form: &Form,
+    steps: &mut Steps<L>,
+) -> Option<UserId>
+    ensures { result ≡ named_by facts.now form.now }
+{
+    match form {
+        Form::Username { name, .. } => account_named(facts, name, steps),
+        Form::NamePassword { name, .. } => account_named(facts, name, steps),
+        _ => None,
+    }
+}
+
+/// The user whose password a form gives, where `who` is the one whose login it is, and `named` the
+/// one whom it names.
+pub(crate) fn target_of(named: Option<UserId>, who: Option<UserId>, form: &Form) -> Option<UserId>
+    ensures { result ≡ target_of named who form.now }
+{
+    match form {
+        Form::NamePassword { .. } => named,
+        Form::Password { .. } => who,
+        _ => None,
+    }
+}
+
+fn is_need(need: &Need, execution: &Name, kind: Kind) -> bool
+    ensures { result ≡ is_need need.now execution.now kind }
+{
+    need.id == *execution && need.kind == kind
+}
+
+/// Whether a form is one of this execution.
+pub(crate) fn is_of(need: &Need, form: &Form) -> bool
+    ensures { result ≡ is_of need.now form.now }
+{
+    match form {
+        Form::Username { execution, .. } => is_need(need, execution, Kind::Username),
+        Form::Password { execution, .. } => is_need(need, execution, Kind::Password),
+        Form::NamePassword { execution, .. } => is_need(need, execution, Kind::Form),
+        _ => false,
+    }
+}
+
+/// Whose post is accepted in which tab, with the secret of which serial, and when.
+#[derive(Clone, Copy, Debug, PartialEq, Eq)]
+pub(crate) struct Passing {
+    pub tab: TabKey,
+    pub user: UserId,
+    pub credential: u64,
+    pub moment: u64,
+}
+
+impl Passing {
+    fn named(&self) -> Fact
+        ensures { result ≡ named self.now }
+    {
+        Fact::Named {
+            tab: self.tab,
+            user: self.user,
+        }
+    }
+
+    fn passed(&self, alloc: Global, execution: &Name, kind: Kind) -> Result<Fact, Memory>
+        ensures { IfOk result (λ fact. fact ≡ passed self.now execution.now kind) }
+    {
+        Ok(Fact::Passed {
+            tab: self.tab,
+            execution: execution.duplicate(alloc)?,
+            user: self.user,
+            kind,
+            credential: self.credential,
+            moment: self.moment,
+        })
+    }
+
+    /// The evidence of an accepted post.
+    pub fn evidence(&self, alloc: Global, form: &Form) -> Result<Sequence<Fact>, Memory>
+        ensures { IfOk result (λ evidence. evidence ≡ evidence_of self.now form.now) }
+    {
+        let mut added = Sequence::new(alloc);
+        match form {
+            Form::Username { execution, .. } => {
+                added.push(self.named())?;
+                added.push(self.passed(alloc, execution, Kind::Username)?)?;
+            }
+            Form::NamePassword { execution, .. } => {
+                added.push(self.named())?;
+                added.push(self.passed(alloc, execution, Kind::Form)?)?;
+            }
+            Form::Password { execution, .. } => {
+                added.push(self.passed(alloc, execution, Kind::Password)?)?;
+            }
+            _ => {}
+        }
+        Ok(added)
+    }
+}
