@@ -5,3 +5,4 @@ mod PairLemmas
 mod PlayLemmas
 mod RunLemmas
 mod TakingLemmas
+mod FirstLemmas

@@ -8,10 +8,11 @@ use Rattle.std.proofs.lemmas.List.{append-nil, length-append}
 use Rattle.std.proofs.lemmas.List.Sums.{fold-append}
 use Rattle.facts.specs.declared.entry.Entry.{Entry}
 use Rattle.facts.specs.declared.fact.Fact.{Fact}
+use Rattle.facts.specs.Realms.{has_realm}
 use Rattle.facts.specs.Serials.{last_tab_serial, last_stored_serial}
 use Rattle.login_base.specs.Outside.{before_known, after_known}
 use Rattle.login_hall.specs.Found.{solved_of}
-use Rattle.login_hall.specs.Growth.{chronicle_of}
+use Rattle.login_hall.specs.Growth.{chronicle_of, last_moment}
 use Rattle.login_hall.specs.HallState.{HallState, facts_of}
 use Rattle.login_hall.specs.Legal.{entry_due}
 use Rattle.login_desk.specs.declared.lines.Asked.{Asked}
@@ -95,7 +96,7 @@ text_of-with_line base journal line = text_of-with journal (entry_of_line base j
 -- what is kept of a line stands for the line
 module _ (base : List Fact) (journal : List Entry) (line kept : List ℕ) (h : IsFront line_limit line kept) where
   entry-front : entry_of_line base journal kept ≡ entry_of_line base journal line
-  entry-front = ap (λ (asked : Asked). entry_due base journal 0 asked.moment asked.words (solved_of (chronicle_of base journal) asked.ask asked.words)) (sym (asked_of-front line kept h))
+  entry-front = ap (λ (asked : Asked). entry_due base journal 0 asked.moment asked.words (solved_of (chronicle_of base journal) (last_moment base journal) asked.ask asked.words)) (sym (asked_of-front line kept h))
 
   with_line-front : with_line base journal kept ≡ with_line base journal line
   with_line-front = λ i. cond (sym (is_passed-front line kept h) i) journal (journal ++ entry-front i ∷ [])
@@ -113,6 +114,10 @@ none_stored : (hall : HallState) → hall.base ≡ first_base → hall.journal �
 unfolding chronicle_of last_stored_serial
 none_stored hall b j = ap last_stored_serial (ap (λ x. chronicle_of x hall.journal) b ∙ ap (chronicle_of first_base) j)
 
+first_realm : (hall : HallState) → hall.base ≡ first_base → hall.journal ≡ [] → has_realm (facts_of hall) ≡ true
+unfolding chronicle_of has_realm
+first_realm hall b j = ap has_realm (ap (λ x. chronicle_of x hall.journal) b ∙ ap (chronicle_of first_base) j)
+
 pub starts : (script before : Option (List ℕ)) (held : Held) (hall : HallState) → held.pending ≡ [] → held.taken ≡ 0 → hall.base ≡ first_base → hall.journal ≡ [] → Going script script before before held hall
 unfolding history text_of
 starts script before held hall p t b j = record {
@@ -123,6 +128,7 @@ starts script before held hall p t b j = record {
   text = after_known-nil before;
   base = b;
   journal = j;
+  realm = first_realm hall b j;
   tabs = omega (arith, no_tabs hall b j);
   stored = omega (arith, none_stored hall b j);
 }
@@ -213,6 +219,7 @@ module _ (script left before after : Option (List ℕ)) (held : Held) (hall : Ha
           text = told later t.line kept t.front e;
           base = a.base ∙ h.base;
           journal = a.journal ∙ with_line-front hall.base hall.journal t.line kept t.front ∙ ap (λ b. with_line b hall.journal t.line) h.base ∙ ap (λ j. with_line first_base j t.line) h.journal ∙ sym (history-push first_base h.done t.line);
+          realm = a.realm h.realm;
           tabs = omega (arith, a.tabs, h.tabs, pushed);
           stored = omega (arith, a.stored, h.stored, pushed);
         }

@@ -1,5 +1,5 @@
 -- What a verb and its pairs ask.
-use Rattle.std.specs.Prelude.{ℕ, Bool, false, not, ◌&&◌, ◌||◌, nat_le, nat_eq, List, [], ◌∷◌, length, Option, Some, None, option_and_then, Result, Ok, Err, map, codes, if◌then◌else◌}
+use Rattle.std.specs.Prelude.{ℕ, Bool, true, false, not, ◌&&◌, ◌||◌, nat_le, nat_eq, List, [], ◌∷◌, length, Option, Some, None, option_and_then, ok_or, Result, Ok, Err, map, codes, if◌then◌else◌}
 use Rattle.std.specs.Option.{option_map}
 use Rattle.std.specs.List.{starts_with}
 use Rattle.std.specs.Char.{to_ascii_lowercase}
@@ -12,10 +12,13 @@ use Rattle.facts.specs.declared.admin.AdminVerb.TheVariants as verbs
 use Rattle.facts.specs.declared.ask.Access.TheVariants as accesses
 use Rattle.facts.specs.declared.ask.Ask.{Ask}
 use Rattle.facts.specs.declared.ask.Ask.TheVariants as asks
+use Rattle.facts.specs.declared.ask.Form.{Form}
 use Rattle.facts.specs.declared.ask.Form.TheVariants as forms
 use Rattle.login_desk.specs.declared.pairs.Pair.{Pair}
 use Rattle.login_desk.specs.declared.place.Place.{Place}
 use Rattle.login_desk.specs.declared.place.Place.TheVariants as places
+use Rattle.login_desk.specs.declared.posted_to.FormKind.{FormKind}
+use Rattle.login_desk.specs.declared.posted_to.FormKind.TheVariants as kinds
 use Rattle.login_desk.specs.declared.posted_to.PostedTo.{PostedTo}
 use Rattle.login_desk.specs.Pairs.{has, value_of}
 use Rattle.login_desk.specs.Places.{place_text}
@@ -25,6 +28,11 @@ infixl 10 ◌>>=◌
 abbrev pub ◌>>=◌ : {A B : Type 0} → Result A Place → (A → Result B Place) → Result B Place
 (Ok x) >>= f = f x
 (Err place) >>= f = Err place
+
+-- what was read, or the malformed place
+abbrev pub asked : Result Ask Place → Ask
+asked (Ok ask) = ask
+asked (Err place) = asks.Bad (place_text place)
 
 -- the pair of this name isn't there
 abbrev pub absent : Place → List Pair → Result (Unit {0}) Place
@@ -54,6 +62,11 @@ open_ask (Err place) = asks.Bad (place_text place)
 
 -- ---- names and passwords
 
+-- a name as it is written, whose capitals aren't read as small letters
+abbrev pub exact_name : Option (List ℕ) → Option (List ℕ)
+exact_name (Some value) = if is_name value then Some value else None
+exact_name None = None
+
 -- a user's name, whose capitals are read as small letters
 abbrev pub user_name : Option (List ℕ) → Option (List ℕ)
 user_name (Some value) = let name = map to_ascii_lowercase value in if is_name name then Some name else None
@@ -62,6 +75,11 @@ user_name None = None
 -- 1 to 256 bytes of UTF-8; the character U+FFFD stands where the bytes weren't UTF-8
 abbrev pub is_password : List ℕ → Bool
 is_password value = nat_le 1 (length value) && nat_le (length value) 256 && not (has_replacement value)
+
+-- a password, where it is well-formed
+abbrev pub password_text : Option (List ℕ) → Option (List ℕ)
+password_text (Some value) = if is_password value then Some value else None
+password_text None = None
 
 -- a password is given
 abbrev pub password_given : Option (List ℕ) → Result (Unit {0}) Place
@@ -90,7 +108,7 @@ abbrev pub user_add_ask : Option (List ℕ) → List Pair → Ask
 user_add_ask (Some name) pairs = added_user name (value_of (codes "password") pairs) (user_setup pairs)
 user_add_ask None pairs = asks.Bad (codes "name")
 
--- ---- post
+-- ---- keys
 
 -- a root may be given: one outside the grammar counts as absent, and two are malformed
 abbrev pub root_from : Option (List ℕ) → Result (Option RootKey) Place
@@ -101,52 +119,68 @@ abbrev pub root_given : List Pair → Result (Option RootKey) Place
 root_given pairs = if has (codes "root") pairs then root_from (value_of (codes "root") pairs) else Ok None
 
 -- an id is given at this place
-abbrev pub id_from : Place → Option Id → Result Id Place
-id_from place (Some id) = Ok id
-id_from place None = Err place
-
 abbrev pub id_given : Place → List Pair → Result Id Place
-id_given place pairs = id_from place (option_and_then id_of (value_of (place_text place) pairs))
+id_given place pairs = ok_or (option_and_then id_of (value_of (place_text place) pairs)) place
 
--- the pairs of the form of name and password, and of no other
-abbrev pub right_form : List Pair → Result (Unit {0}) Place
-right_form pairs =
-    if has (codes "execution") pairs && has (codes "name") pairs && has (codes "password") pairs && not (has (codes "action") pairs) && not (has (codes "value") pairs) then Ok tt
+-- ---- page
+
+-- the page of a tab
+unfoldable pub page : List Pair → Result Ask Place
+page pairs = do
+  root ← root_given pairs
+  tab ← id_given places.Tab pairs
+  Ok (asks.Page root (record { 0 = tab }))
+
+-- ---- post
+
+-- the form of a name, a password, or both
+abbrev pub kind_with : Bool → Bool → Result FormKind Place
+kind_with true false = Ok kinds.Username
+kind_with false true = Ok kinds.Password
+kind_with true true = Ok kinds.NamePassword
+kind_with false false = Err places.Form
+
+-- the form whose pairs are there, and those of no other
+abbrev pub form_kind : List Pair → Result FormKind Place
+form_kind pairs =
+    if has (codes "execution") pairs && not (has (codes "action") pairs) && not (has (codes "value") pairs) then kind_with (has (codes "name") pairs) (has (codes "password") pairs)
     else Err places.Form
 
--- the one execution of the built-in realm
-abbrev pub is_form : Option (List ℕ) → Result (Unit {0}) Place
-is_form (Some value) = if bytes_eq value (codes "form") then Ok tt else Err places.Execution
-is_form None = Err places.Execution
-
-abbrev pub name_given : Option (List ℕ) → Result (Unit {0}) Place
-name_given (Some name) = Ok tt
-name_given None = Err places.Name
-
--- what a post is posted to, where its pairs are well-formed
-unfoldable pub posted_to : Option (List ℕ) → List Pair → Result PostedTo Place
-posted_to name pairs = do
+-- what a post is posted to, and as which form
+unfoldable pub posted_to : List Pair → Result PostedTo Place
+posted_to pairs = do
   root ← root_given pairs
   tab ← id_given places.Tab pairs
   code ← id_given places.Code pairs
-  form ← right_form pairs
-  execution ← is_form (value_of (codes "execution") pairs)
-  named ← name_given name
-  password ← password_given (value_of (codes "password") pairs)
-  Ok (record { root = root; tab = record { 0 = tab }; code = record { 0 = code } })
+  form ← form_kind pairs
+  Ok (record { root = root; tab = record { 0 = tab }; code = record { 0 = code }; form = form })
 
--- the post of a name and a password, none where they aren't there
-abbrev pub name_post : PostedTo → Option (List ℕ) → Option (List ℕ) → Ask
-name_post to (Some name) (Some password) = asks.Post to.root to.tab to.code (forms.NamePassword (codes "form") name password)
-name_post to (Some name) None = asks.Bad (codes "password")
-name_post to None password = asks.Bad (codes "name")
+-- the form of this kind, whose texts are none where they aren't well-formed
+unfoldable pub form_with : FormKind → Option (List ℕ) → Option (List ℕ) → Option (List ℕ) → Result Form Place
+form_with kinds.Username execution name password = do
+  execution ← ok_or execution places.Execution
+  name ← ok_or name places.Name
+  Ok (forms.Username execution name)
+form_with kinds.Password execution name password = do
+  execution ← ok_or execution places.Execution
+  password ← ok_or password places.Password
+  Ok (forms.Password execution password)
+form_with kinds.NamePassword execution name password = do
+  execution ← ok_or execution places.Execution
+  name ← ok_or name places.Name
+  password ← ok_or password places.Password
+  Ok (forms.NamePassword execution name password)
 
-abbrev pub post_with : Result PostedTo Place → Option (List ℕ) → Option (List ℕ) → Ask
-post_with (Ok to) name password = name_post to name password
-post_with (Err place) name password = asks.Bad (place_text place)
+-- the form of this kind in the pairs
+abbrev pub form_of : FormKind → List Pair → Result Form Place
+form_of kind pairs = form_with kind (exact_name (value_of (codes "execution") pairs)) (user_name (value_of (codes "name") pairs)) (password_text (value_of (codes "password") pairs))
 
-abbrev pub post_ask : Option (List ℕ) → List Pair → Ask
-post_ask name pairs = post_with (posted_to name pairs) name (value_of (codes "password") pairs)
+-- the post of a form
+abbrev pub post : List Pair → Result Ask Place
+post pairs = do
+  to ← posted_to pairs
+  form ← form_of to.form pairs
+  Ok (asks.Post to.root to.tab to.code form)
 
 -- ---- verbs
 
@@ -155,5 +189,6 @@ unfoldable pub verb_ask : List ℕ → List Pair → Ask
 verb_ask verb pairs =
     if bytes_eq verb (codes "open") then open_ask (open_form pairs)
     else if bytes_eq verb (codes "user-add") then user_add_ask (user_name (value_of (codes "name") pairs)) pairs
-    else if bytes_eq verb (codes "post") then post_ask (user_name (value_of (codes "name") pairs)) pairs
+    else if bytes_eq verb (codes "page") then asked (page pairs)
+    else if bytes_eq verb (codes "post") then asked (post pairs)
     else asks.Bad (codes "verb")

@@ -4,22 +4,23 @@ use Rattle.std.specs.List.{flat_map}
 use Rattle.facts.specs.declared.entry.Entry.{Entry}
 use Rattle.facts.specs.declared.fact.Fact.{Fact}
 use Rattle.facts.specs.declared.fact.Fact.TheVariants as facts
+use Rattle.facts.specs.RealmBuiltin.{builtin_realm}
 use Rattle.facts.specs.Words.{words}
 use Rattle.login_hall.specs.Found.{solved_of}
-use Rattle.login_hall.specs.Growth.{chronicle_of}
+use Rattle.login_hall.specs.Growth.{chronicle_of, last_moment}
 use Rattle.login_hall.specs.Legal.{entry_due}
 use Rattle.login_desk.specs.declared.lines.Asked.{Asked}
 use Rattle.login_desk.specs.Lines.{asked_of, is_passed}
 
--- what a history begins with
+-- what a history begins with: one mark of zeros, and the built-in realm, which the start puts as version 1
 abbrev pub first_base : List Fact
-first_base = facts.Mark 0 0 0 0 ∷ []
+first_base = facts.Mark 0 0 0 0 ∷ facts.RealmPut 1 builtin_realm ∷ []
 
 -- the entry that a line is due; the caller of a script is 0
 abbrev pub entry_of_line : List Fact → List Entry → List ℕ → Entry
 entry_of_line base journal line =
     let asked : Asked = asked_of line in
-    entry_due base journal 0 asked.moment asked.words (solved_of (chronicle_of base journal) asked.ask asked.words)
+    entry_due base journal 0 asked.moment asked.words (solved_of (chronicle_of base journal) (last_moment base journal) asked.ask asked.words)
 
 -- a journal, and the entry of one more line: one that is passed over has none
 abbrev pub with_line : List Fact → List Entry → List ℕ → List Entry

@@ -1,8 +1,9 @@
 -- How one line is answered.
-use Rattle.std.specs.Prelude.{◌≡◌, ℕ, ◌+◌, ◌≤◌, List, [], ◌++◌, Option, if◌then◌else◌}
+use Rattle.std.specs.Prelude.{◌≡◌, ℕ, ◌+◌, ◌≤◌, true, List, [], ◌++◌, Option, if◌then◌else◌}
 use Rattle.login_base.specs.Outside.{after_known}
 use Rattle.facts.specs.declared.entry.Entry.{Entry}
 use Rattle.facts.specs.declared.fact.Fact.{Fact}
+use Rattle.facts.specs.Realms.{has_realm}
 use Rattle.facts.specs.Serials.{last_tab_serial, last_stored_serial}
 use Rattle.login_hall.specs.HallState.{HallState, facts_of}
 use Rattle.login_desk.specs.declared.turn.Turn.{Turn}
@@ -18,6 +19,7 @@ line_text base journal line = if is_passed line then [] else entry_text (entry_o
 pub record Answers (old new : HallState) (line : List ℕ) : Type 0 where
   pub base : new.base ≡ old.base
   pub journal : new.journal ≡ with_line old.base old.journal line
+  pub realm : has_realm (facts_of old) ≡ true → has_realm (facts_of new) ≡ true
   pub tabs : last_tab_serial (facts_of new) ≤ last_tab_serial (facts_of old) + 4
   pub stored : last_stored_serial (facts_of new) ≤ last_stored_serial (facts_of old) + 4
 

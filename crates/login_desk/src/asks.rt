@@ -1,14 +1,15 @@
 ghost use Rattle.std.specs.Prelude.{◌≡◌, IfOk, codes};
 ghost use Rattle.std.specs.Option.{option_copied};
-ghost use Rattle.login_desk.specs.Asks.{absent, is_app, open_form, open_ask, user_name, user_setup, added_user, user_add_ask, verb_ask};
+ghost use Rattle.login_desk.specs.Asks.{absent, is_app, open_form, open_ask, user_name, user_setup, added_user, user_add_ask, page, verb_ask};
 ghost use Rattle.login_desk.specs.Pairs.{value_of};
 
 use crate::credentials::{copied, optional_password, user_name};
 use crate::pairs::{Pair, has, value_of};
-use crate::place::{Place, bad};
+use crate::place::{Place, asked, bad};
 use crate::post::post_ask;
+use crate::posted_to::{id_given, root_given};
 use facts::{Access, AdminVerb, Ask};
-use login_base::{Memory, Name, Sequence};
+use login_base::{Memory, Name, Sequence, TabKey};
 use std::alloc::Global;
 
 /// The pair of this name isn't there.
@@ -92,6 +93,19 @@ fn user_add_ask(alloc: Global, pairs: &[Pair]) -> Result<Ask, Memory>
     }
 }
 
+/// The page of a tab.
+#[tactic(auto, unfolding(crate::specs::Asks::page))]
+fn page(pairs: &[Pair]) -> Result<Ask, Place>
+    ensures { result ≡ page pairs.now }
+{
+    let root = root_given(pairs)?;
+    let tab = id_given(Place::Tab, pairs)?;
+    Ok(Ask::Page {
+        root,
+        tab: TabKey(tab),
+    })
+}
+
 /// The ask of a verb and its pairs.
 #[tactic(auto, unfolding(crate::specs::Asks::verb_ask))]
 pub fn verb_ask(alloc: Global, verb: &[u8], pairs: &[Pair]) -> Result<Ask, Memory>
@@ -102,6 +116,9 @@ pub fn verb_ask(alloc: Global, verb: &[u8], pairs: &[Pair]) -> Result<Ask, Memor
     }
     if verb == b"user-add".as_slice() {
         return user_add_ask(alloc, pairs);
+    }
+    if verb == b"page".as_slice() {
+        return asked(alloc, page(pairs));
     }
     if verb == b"post".as_slice() {
         return post_ask(alloc, pairs);

@@ -1,6 +1,6 @@
 ghost use Rattle.std.specs.Prelude.{◌≡◌, IfOk};
 ghost use Rattle.std.specs.Option.{option_copied};
-ghost use Rattle.login_desk.specs.Asks.{user_name, has_replacement, is_password, password_given, optional_password};
+ghost use Rattle.login_desk.specs.Asks.{exact_name, user_name, has_replacement, is_password, password_text, password_given, optional_password};
 
 use crate::pairs::{Pair, has, value_of};
 use crate::place::Place;
@@ -12,6 +12,16 @@ const MOST_PASSWORD: usize = 256;
 
 /// The character that stands where bytes weren't UTF-8, in UTF-8.
 const REPLACEMENT: [u8; 3] = [0xef, 0xbf, 0xbd];
+
+/// A name as it is written, whose capitals aren't read as small letters.
+pub fn exact_name(alloc: Global, value: Option<&[u8]>) -> Result<Option<Name>, Memory>
+    ensures name { IfOk result (λ name. name ≡ exact_name (option_copied value.entry)) }
+{
+    match value {
+        Some(value) => read_name(alloc, value),
+        None => Ok(None),
+    }
+}
 
 /// The name of a user, whose capitals are read as small letters.
 pub fn user_name(alloc: Global, value: Option<&[u8]>) -> Result<Option<Name>, Memory>
@@ -46,6 +56,16 @@ fn is_password(value: &[u8]) -> bool
     ensures { result ≡ is_password value.now }
 {
     !value.is_empty() && value.len() <= MOST_PASSWORD && !has_replacement(value)
+}
+
+/// A copy of a password, where it is well-formed.
+pub fn password_text(alloc: Global, value: Option<&[u8]>) -> Result<Option<Sequence<u8>>, Memory>
+    ensures password { IfOk result (λ password. password ≡ password_text (option_copied value.entry)) }
+{
+    match value {
+        Some(value) if is_password(value) => copied(alloc, Some(value)),
+        _ => Ok(None),
+    }
 }
 
 /// A password is given.

@@ -6,6 +6,8 @@
 mod asks;
 mod credentials;
 mod edge;
+#[cfg(test)]
+mod flow_tests;
 mod intake;
 mod lines;
 mod number;

@@ -1,6 +1,7 @@
 ghost use Rattle.std.specs.Prelude.{◌≡◌, IfOk, IsTrue};
 ghost use Rattle.facts.specs.declared.ask.Ask.TheVariants as asks;
 ghost use Rattle.login_base.specs.Names.{is_name};
+ghost use Rattle.login_desk.specs.Asks.{asked};
 ghost use Rattle.login_desk.specs.Places.{place_text};
 
 use facts::Ask;
@@ -57,4 +58,14 @@ pub fn bad(alloc: Global, place: Place) -> Result<Ask, Memory>
 {
     let at = Name::known(alloc, place.text())?;
     Ok(Ask::Bad { at })
+}
+
+/// The ask that was read, or a malformed one.
+pub fn asked(alloc: Global, read: Result<Ask, Place>) -> Result<Ask, Memory>
+    ensures ask { IfOk result (λ ask. ask ≡ asked read) }
+{
+    match read {
+        Ok(ask) => Ok(ask),
+        Err(place) => bad(alloc, place),
+    }
 }

@@ -1,11 +1,11 @@
-ghost use Rattle.std.specs.Prelude.{◌≡◌, ◌<◌, ◌≤◌, ◌+◌, ◌^◌, []};
+ghost use Rattle.std.specs.Prelude.{◌≡◌, ◌<◌, ◌≤◌, ◌+◌, ◌^◌, [], IfOk};
 ghost use Rattle.login_base.specs.Outside.{Rose, counted};
 ghost use Rattle.login_desk.specs.Outcome.{PlayEnds, end_of};
 ghost use Rattle.login_desk.specs.Play.{first_base};
 
 use crate::intake::{Intake, Next, SCRIPT_LIMIT};
 use crate::turn::{Turn, answer_line};
-use login_base::{Sink, Source, Steps};
+use login_base::{Memory, Sink, Source, Steps};
 use login_hall::Hall;
 use std::alloc::Global;
 use std::marker::Brand;
@@ -74,6 +74,17 @@ fn play_lines<L: Ledger, S: Source, W: Sink>(
     End::TooLong
 }
 
+/// A new hall, which has started with the built-in realm.
+fn started_hall(alloc: Global) -> Result<Hall, Memory>
+    ensures base { IfOk result (λ hall. hall.base ≡ first_base) }
+    ensures journal { IfOk result (λ hall. hall.journal ≡ []) }
+{
+    let mut hall = Hall::make(alloc)?;
+    let start = hall.start(None)?;
+    hall.started(start);
+    Ok(hall)
+}
+
 /// Plays a script over a new hall, with a counter of steps on this ledger.
 fn play_counted<L: Ledger, S: Source, W: Sink>(
     alloc: Global,
@@ -92,7 +103,7 @@ fn play_counted<L: Ledger, S: Source, W: Sink>(
     ensures puts { W.faults sink.old ≤ W.faults sink.new }
 {
     let mut steps = Steps::<L>::new(blank);
-    let Ok(mut hall) = Hall::make(alloc) else {
+    let Ok(mut hall) = started_hall(alloc) else {
         return End::Memory;
     };
     let Ok(mut intake) = Intake::make(alloc, BUFFER) else {

@@ -1,6 +1,8 @@
+use crate::lines::asked_of;
 use crate::run::run;
 use crate::status::Status;
-use login_base::{Argv, MemSink, MemSource, Memory};
+use facts::{Ask, Form};
+use login_base::{Argv, MemSink, MemSource, Memory, RootKey, id_text};
 use std::alloc::Global;
 use std::process::Abort;
 use std::test::Fail;
@@ -34,7 +36,7 @@ fn run_on(
 }
 
 /// What a replay of a script writes, where nothing fails.
-fn text_of(rt: &impl Abort, alloc: Global, script: &[u8]) -> Result<Vec<u8>, Memory> {
+pub(crate) fn text_of(rt: &impl Abort, alloc: Global, script: &[u8]) -> Result<Vec<u8>, Memory> {
     let replayed = run_on(alloc, &["replay"], script, &[], &[])?;
     assert_eq!(rt; replayed.status, 0);
     Ok(replayed.text)
@@ -99,7 +101,7 @@ const MALFORMED: [(&str, &str); 41] = [
     ("1 1 ", "verb"),
     ("1 1  open client=app", "verb"),
     ("1 1 Open client=app", "verb"),
-    ("1 1 page execution=form", "verb"),
+    ("1 1 pages tab=x", "verb"),
     ("1 1 sweep", "verb"),
     ("1 1 open", "client"),
     ("1 1 open  client=app", "client"),
@@ -177,7 +179,7 @@ fn logins_are_answered(rt: HostRuntime) -> Result<(), Fail> {
 }
 
 /// Malformed posts and passwords, and the first place that is malformed.
-const MALFORMED_POSTS: [(&str, &str); 25] = [
+const MALFORMED_POSTS: [(&str, &str); 49] = [
     ("1 1 post", "tab"),
     (
         "1 1 post root=0000000000000001.00000000000000c800000000000000c9&root=0000000000000001.00000000000000c800000000000000c9&tab=0000000000000002.00000000000000ca00000000000000cb&code=0000000000000003.00000000000000cc00000000000000cd&execution=form&name=ann&password=p",
@@ -204,11 +206,11 @@ const MALFORMED_POSTS: [(&str, &str); 25] = [
         "form",
     ),
     (
-        "1 1 post tab=0000000000000002.00000000000000ca00000000000000cb&code=0000000000000003.00000000000000cc00000000000000cd&execution=form&name=ann",
+        "1 1 post tab=0000000000000002.00000000000000ca00000000000000cb&code=0000000000000003.00000000000000cc00000000000000cd&execution=form",
         "form",
     ),
     (
-        "1 1 post tab=0000000000000002.00000000000000ca00000000000000cb&code=0000000000000003.00000000000000cc00000000000000cd&execution=form&password=p",
+        "1 1 post tab=0000000000000002.00000000000000ca00000000000000cb&code=0000000000000003.00000000000000cc00000000000000cd&name=ann&password=p",
         "form",
     ),
     (
@@ -228,7 +230,7 @@ const MALFORMED_POSTS: [(&str, &str); 25] = [
         "form",
     ),
     (
-        "1 1 post tab=0000000000000002.00000000000000ca00000000000000cb&code=0000000000000003.00000000000000cc00000000000000cd&execution=otp&name=a+b&password=",
+        "1 1 post tab=0000000000000002.00000000000000ca00000000000000cb&code=0000000000000003.00000000000000cc00000000000000cd&execution=Form&name=a+b&password=",
         "execution",
     ),
     (
@@ -259,6 +261,99 @@ const MALFORMED_POSTS: [(&str, &str); 25] = [
         "1 1 post tab=0000000000000002.00000000000000ca00000000000000cb&code=0000000000000003.00000000000000cc00000000000000cd&execution=form&name=ann&password=p&password=p",
         "password",
     ),
+    (
+        "1 1 post tab=0000000000000002.00000000000000ca00000000000000cb&code=0000000000000003.00000000000000cc00000000000000cd&execution=form&name=ann&value=1",
+        "form",
+    ),
+    (
+        "1 1 post tab=0000000000000002.00000000000000ca00000000000000cb&code=0000000000000003.00000000000000cc00000000000000cd&execution=form&password=p&value=1",
+        "form",
+    ),
+    (
+        "1 1 post tab=0000000000000002.00000000000000ca00000000000000cb&code=0000000000000003.00000000000000cc00000000000000cd&execution=form&action=terms",
+        "form",
+    ),
+    (
+        "1 1 post tab=0000000000000002.00000000000000ca00000000000000cb&code=0000000000000003.00000000000000cc00000000000000cd&execution=form&name=ann&action=terms",
+        "form",
+    ),
+    (
+        "1 1 post tab=0000000000000002.00000000000000ca00000000000000cb&code=0000000000000003.00000000000000cc00000000000000cd&execution=form&execution=form",
+        "form",
+    ),
+    (
+        "1 1 post tab=0000000000000002.00000000000000ca00000000000000cb&code=0000000000000003.00000000000000cc00000000000000cd&execution=form&execution=form&name=a+b",
+        "execution",
+    ),
+    (
+        "1 1 post tab=0000000000000002.00000000000000ca00000000000000cb&code=0000000000000003.00000000000000cc00000000000000cd&execution=form&execution=form&password=",
+        "execution",
+    ),
+    (
+        "1 1 post tab=0000000000000002.00000000000000ca00000000000000cb&code=0000000000000003.00000000000000cc00000000000000cd&execution=Form&name=ann",
+        "execution",
+    ),
+    (
+        "1 1 post tab=0000000000000002.00000000000000ca00000000000000cb&code=0000000000000003.00000000000000cc00000000000000cd&execution=Form&password=p",
+        "execution",
+    ),
+    (
+        "1 1 post tab=0000000000000002.00000000000000ca00000000000000cb&code=0000000000000003.00000000000000cc00000000000000cd&execution=foRm&name=ann&password=p",
+        "execution",
+    ),
+    (
+        "1 1 post tab=0000000000000002.00000000000000ca00000000000000cb&code=0000000000000003.00000000000000cc00000000000000cd&execution=&name=ann",
+        "execution",
+    ),
+    (
+        "1 1 post tab=0000000000000002.00000000000000ca00000000000000cb&code=0000000000000003.00000000000000cc00000000000000cd&execution=-form&name=ann",
+        "execution",
+    ),
+    (
+        "1 1 post tab=0000000000000002.00000000000000ca00000000000000cb&code=0000000000000003.00000000000000cc00000000000000cd&execution=a+b&password=p",
+        "execution",
+    ),
+    (
+        "1 1 post tab=0000000000000002.00000000000000ca00000000000000cb&code=0000000000000003.00000000000000cc00000000000000cd&execution=form%ff&name=ann",
+        "execution",
+    ),
+    (
+        "1 1 post tab=0000000000000002.00000000000000ca00000000000000cb&code=0000000000000003.00000000000000cc00000000000000cd&execution=eeeeeeeeeeeeeeeeeeeeeeeeeeeeeeeeeeeeeeeeeeeeeeeeeeeeeeeeeeeeeeeee&name=ann",
+        "execution",
+    ),
+    (
+        "1 1 post tab=0000000000000002.00000000000000ca00000000000000cb&code=0000000000000003.00000000000000cc00000000000000cd&execution=otp&name=a+b",
+        "name",
+    ),
+    (
+        "1 1 post tab=0000000000000002.00000000000000ca00000000000000cb&code=0000000000000003.00000000000000cc00000000000000cd&execution=form&name=",
+        "name",
+    ),
+    (
+        "1 1 post tab=0000000000000002.00000000000000ca00000000000000cb&code=0000000000000003.00000000000000cc00000000000000cd&execution=form&name=ann&name=ann",
+        "name",
+    ),
+    (
+        "1 1 post tab=0000000000000002.00000000000000ca00000000000000cb&code=0000000000000003.00000000000000cc00000000000000cd&execution=form&password=",
+        "password",
+    ),
+    (
+        "1 1 post tab=0000000000000002.00000000000000ca00000000000000cb&code=0000000000000003.00000000000000cc00000000000000cd&execution=otp&password=a%ffb",
+        "password",
+    ),
+    (
+        "1 1 post tab=0000000000000002.00000000000000ca00000000000000cb&code=0000000000000003.00000000000000cc00000000000000cd&execution=form&password=p&password=p",
+        "password",
+    ),
+    (
+        "1 1 post root=0000000000000001.00000000000000c800000000000000c9&root=0000000000000001.00000000000000c800000000000000c9&execution=form&name=ann",
+        "root",
+    ),
+    ("1 1 post execution=form&name=ann", "tab"),
+    (
+        "1 1 post tab=0000000000000002.00000000000000ca00000000000000cb&execution=Form&name=a+b",
+        "code",
+    ),
     ("1 1 user-add name=ann&password=%ff", "password"),
     ("1 1 user-add name=ann&password=p&password=p", "password"),
     (
@@ -275,6 +370,175 @@ fn malformed_posts_name_their_first_place(rt: HostRuntime) -> Result<(), Fail> {
         assert_eq!(rt;
             text_of(&rt, rt.alloc(), line.as_bytes())?.as_slice(),
             text.as_bytes(),
+            "{line}"
+        );
+    }
+    Ok(())
+}
+
+/// Malformed pages, and the first place that is malformed.
+const MALFORMED_PAGES: [(&str, &str); 8] = [
+    ("1 1 page", "tab"),
+    (
+        "1 1 page root=0000000000000001.00000000000000c800000000000000c9",
+        "tab",
+    ),
+    (
+        "1 1 page root=0000000000000001.00000000000000c800000000000000c9&tab=x",
+        "tab",
+    ),
+    ("1 1 page tab=", "tab"),
+    (
+        "1 1 page tab=0000000000000002.00000000000000CA00000000000000CB",
+        "tab",
+    ),
+    (
+        "1 1 page tab=0000000000000002.00000000000000ca00000000000000cb&tab=0000000000000002.00000000000000ca00000000000000cb",
+        "tab",
+    ),
+    (
+        "1 1 page tab=0000000000000002.00000000000000ca00000000000000cb&root=0000000000000001.00000000000000c800000000000000c9&root=0000000000000001.00000000000000c800000000000000c9",
+        "root",
+    ),
+    ("1 1 page root=&root=&tab=x", "root"),
+];
+
+#[test]
+fn malformed_pages_name_their_first_place(rt: HostRuntime) -> Result<(), Fail> {
+    for (line, place) in MALFORMED_PAGES {
+        let text = format!(in rt.alloc(); "refused 1 BadForm at={place}\n")?;
+        assert_eq!(rt;
+            text_of(&rt, rt.alloc(), line.as_bytes())?.as_slice(),
+            text.as_bytes(),
+            "{line}"
+        );
+    }
+    Ok(())
+}
+
+/// Adds a field to the words of an ask.
+fn add_field(words: &mut Vec<u8>, label: &[u8], value: &[u8]) -> Result<(), Memory> {
+    words.push(b' ')?;
+    words.extend_from_slice(label)?;
+    words.push(b'=')?;
+    words.extend_from_slice(value)?;
+    Ok(())
+}
+
+fn add_root(words: &mut Vec<u8>, root: &Option<RootKey>) -> Result<(), Memory> {
+    match root {
+        Some(RootKey(id)) => add_field(words, b"root", &id_text(id)),
+        None => Ok(()),
+    }
+}
+
+fn add_form(words: &mut Vec<u8>, form: &Form) -> Result<(), Memory> {
+    match form {
+        Form::Username { execution, name } => {
+            add_field(words, b"execution", execution.as_bytes())?;
+            add_field(words, b"name", name.as_bytes())
+        }
+        Form::Password {
+            execution,
+            password,
+        } => {
+            add_field(words, b"execution", execution.as_bytes())?;
+            add_field(words, b"password", password.as_slice())
+        }
+        Form::NamePassword {
+            execution,
+            name,
+            password,
+        } => {
+            add_field(words, b"execution", execution.as_bytes())?;
+            add_field(words, b"name", name.as_bytes())?;
+            add_field(words, b"password", password.as_slice())
+        }
+        _ => add_field(words, b"form", b"another"),
+    }
+}
+
+/// The words of a page or a post: what it has, with the pairs in their order.
+fn ask_words(alloc: Global, ask: &Ask) -> Result<Vec<u8>, Memory> {
+    let mut words = Vec::new(alloc);
+    match ask {
+        Ask::Page { root, tab } => {
+            words.extend_from_slice(b"page")?;
+            add_root(&mut words, root)?;
+            add_field(&mut words, b"tab", &id_text(&tab.0))?;
+        }
+        Ask::Post {
+            root,
+            tab,
+            code,
+            form,
+        } => {
+            words.extend_from_slice(b"post")?;
+            add_root(&mut words, root)?;
+            add_field(&mut words, b"tab", &id_text(&tab.0))?;
+            add_field(&mut words, b"code", &id_text(&code.0))?;
+            add_form(&mut words, form)?;
+        }
+        _ => words.extend_from_slice(b"another")?,
+    }
+    Ok(words)
+}
+
+/// Lines, and the words of what they ask.
+const ASKS: [(&str, &str); 11] = [
+    (
+        "1 1 page tab=0000000000000002.00000000000000ca00000000000000cb",
+        "page tab=0000000000000002.00000000000000ca00000000000000cb",
+    ),
+    (
+        "1 1 page root=0000000000000001.00000000000000c800000000000000c9&tab=0000000000000002.00000000000000ca00000000000000cb",
+        "page root=0000000000000001.00000000000000c800000000000000c9 tab=0000000000000002.00000000000000ca00000000000000cb",
+    ),
+    (
+        "1 1 page tab=0000000000000002.00000000000000ca00000000000000cb&root=0000000000000001.00000000000000c800000000000000c9",
+        "page root=0000000000000001.00000000000000c800000000000000c9 tab=0000000000000002.00000000000000ca00000000000000cb",
+    ),
+    (
+        "1 1 page root=zip&tab=0000000000000002.00000000000000ca00000000000000cb",
+        "page tab=0000000000000002.00000000000000ca00000000000000cb",
+    ),
+    (
+        "1 1 page root=&tab=0000000000000002.00000000000000ca00000000000000cb",
+        "page tab=0000000000000002.00000000000000ca00000000000000cb",
+    ),
+    (
+        "1 1 page tab=0000000000000002.00000000000000ca00000000000000cb&code=x&execution=Form&execution=",
+        "page tab=0000000000000002.00000000000000ca00000000000000cb",
+    ),
+    (
+        "1 1 post root=0000000000000001.00000000000000c800000000000000c9&tab=0000000000000002.00000000000000ca00000000000000cb&code=0000000000000003.00000000000000cc00000000000000cd&execution=form&name=Ann",
+        "post root=0000000000000001.00000000000000c800000000000000c9 tab=0000000000000002.00000000000000ca00000000000000cb code=0000000000000003.00000000000000cc00000000000000cd execution=form name=ann",
+    ),
+    (
+        "1 1 post tab=0000000000000002.00000000000000ca00000000000000cb&code=0000000000000003.00000000000000cc00000000000000cd&execution=otp&password=Pw+1",
+        "post tab=0000000000000002.00000000000000ca00000000000000cb code=0000000000000003.00000000000000cc00000000000000cd execution=otp password=Pw 1",
+    ),
+    (
+        "1 1 post root=zip&tab=0000000000000002.00000000000000ca00000000000000cb&code=0000000000000003.00000000000000cc00000000000000cd&execution=1.b_c@d-e&name=BOB&password=p",
+        "post tab=0000000000000002.00000000000000ca00000000000000cb code=0000000000000003.00000000000000cc00000000000000cd execution=1.b_c@d-e name=bob password=p",
+    ),
+    (
+        "1 1 post password=%C3%A9&name=9&execution=%66orm&code=0000000000000003.00000000000000cc00000000000000cd&tab=0000000000000002.00000000000000ca00000000000000cb&root=0000000000000001.00000000000000c800000000000000c9",
+        "post root=0000000000000001.00000000000000c800000000000000c9 tab=0000000000000002.00000000000000ca00000000000000cb code=0000000000000003.00000000000000cc00000000000000cd execution=form name=9 password=\u{e9}",
+    ),
+    (
+        "1 1 post tab=0000000000000002.00000000000000ca00000000000000cb&code=0000000000000003.00000000000000cc00000000000000cd&execution=eeeeeeeeeeeeeeeeeeeeeeeeeeeeeeeeeeeeeeeeeeeeeeeeeeeeeeeeeeeeeeee&name=nnnnnnnnnnnnnnnnnnnnnnnnnnnnnnnnnnnnnnnnnnnnnnnnnnnnnnnnnnnnnnnn",
+        "post tab=0000000000000002.00000000000000ca00000000000000cb code=0000000000000003.00000000000000cc00000000000000cd execution=eeeeeeeeeeeeeeeeeeeeeeeeeeeeeeeeeeeeeeeeeeeeeeeeeeeeeeeeeeeeeeee name=nnnnnnnnnnnnnnnnnnnnnnnnnnnnnnnnnnnnnnnnnnnnnnnnnnnnnnnnnnnnnnnn",
+    ),
+];
+
+#[test]
+fn lines_ask_what_their_pairs_say(rt: HostRuntime) -> Result<(), Fail> {
+    for (line, words) in ASKS {
+        let asked = asked_of(rt.alloc(), line.as_bytes())?;
+        assert_eq!(rt;
+            ask_words(rt.alloc(), &asked.ask)?.as_slice(),
+            words.as_bytes(),
             "{line}"
         );
     }

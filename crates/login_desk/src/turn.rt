@@ -1,4 +1,5 @@
-ghost use Rattle.std.specs.Prelude.{◌≡◌, ◌<◌, ◌≤◌, ◌-◌, ◌^◌, ◌++◌, [], ◌∷◌, false, OnOk, IfOk};
+ghost use Rattle.std.specs.Prelude.{◌≡◌, ◌<◌, ◌≤◌, ◌-◌, ◌^◌, ◌++◌, [], ◌∷◌, true, false, OnOk, IfOk};
+ghost use Rattle.facts.specs.Realms.{has_realm};
 ghost use Rattle.facts.specs.Serials.{last_tab_serial, last_stored_serial};
 ghost use Rattle.facts.specs.Words.{words};
 ghost use Rattle.login_base.specs.Outside.{Rose};
@@ -43,6 +44,7 @@ fn propose_line<L: Ledger>(
     line: &[u8],
     steps: &mut Steps<L>,
 ) -> Result<Proposal, Memory>
+    requires realm { has_realm (facts_of hall.old) ≡ true }
     requires tabs { last_tab_serial (facts_of hall.old) ≤ 2 ^ 63 - 8 }
     requires stored { last_stored_serial (facts_of hall.old) ≤ 2 ^ 63 - 8 }
     ensures entry { IfOk result (λ p. p ≡ entry_of_line hall.old.base hall.old.journal line.now) }
@@ -67,12 +69,13 @@ fn text_of(alloc: Global, reply: &Reply) -> Result<Vec<u8>, Memory>
 }
 
 /// Adds the entry of a line, and answers its text.
-fn enter_line<L: Ledger>(
+pub(crate) fn enter_line<L: Ledger>(
     alloc: Global,
     hall: &mut Hall,
     line: &[u8],
     steps: &mut Steps<L>,
 ) -> Result<Vec<u8>, Memory>
+    requires realm { has_realm (facts_of hall.old) ≡ true }
     requires tabs { last_tab_serial (facts_of hall.old) ≤ 2 ^ 63 - 8 }
     requires stored { last_stored_serial (facts_of hall.old) ≤ 2 ^ 63 - 8 }
     requires wanted { is_passed line.now ≡ false }
@@ -94,6 +97,7 @@ pub fn answer_line<L: Ledger, W: Sink>(
     sink: &mut W,
     steps: &mut Steps<L>,
 ) -> Turn
+    requires realm { has_realm (facts_of hall.old) ≡ true }
     requires tabs { last_tab_serial (facts_of hall.old) ≤ 2 ^ 63 - 8 }
     requires stored { last_stored_serial (facts_of hall.old) ≤ 2 ^ 63 - 8 }
     ensures turn { TurnEnds hall.old hall.new line.now (W.written sink.old) (W.written sink.new) result }

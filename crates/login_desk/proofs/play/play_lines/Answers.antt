@@ -12,6 +12,12 @@ loop-init g c = record {
   puts = omega arith;
 }
 
+pub answer_line-requires-clause-realm : goal.answer_line-requires-clause-realm
+answer_line-requires-clause-realm g c = c.loop.invariant.going.realm
+
+pub answer_line-requires-in-Last-clause-realm : goal.answer_line-requires-in-Last-clause-realm
+answer_line-requires-in-Last-clause-realm g c = c.loop.invariant.going.realm
+
 pub answer_line-requires-clause-tabs : goal.answer_line-requires-clause-tabs
 answer_line-requires-clause-tabs g c = few_tabs _ _ _ _ _ _ c.loop.invariant.going c.loop.invariant.limit
 
