@@ -5,3 +5,4 @@ pub mod TextLemmas
 pub mod InForce
 pub mod RealmRules
 pub mod SerialLemmas
+pub mod TabLemmas

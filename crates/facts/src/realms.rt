@@ -16,7 +16,6 @@ use std::sync::ledger::Ledger;
 pub(crate) struct Version;
 
 impl Fold for Version {
-    ghost use Rattle.facts.specs.Passwords.{is_iterations};
     ghost use Rattle.facts.specs.Realms.{version_after};
 
     type Carried = u64;
@@ -38,7 +37,6 @@ struct PutAs {
 }
 
 impl Hold for PutAs {
-    ghost use Rattle.facts.specs.Passwords.{is_iterations};
     ghost use Rattle.facts.specs.Realms.{put_as};
 
     type Held = Realm;

@@ -1,10 +1,10 @@
-ghost use Rattle.std.specs.Prelude.{◌≡◌, Some, if◌then◌else◌};
-ghost use Rattle.facts.specs.Tabs.{is_root, seen_at, ended_by, session_after, is_live, live_session, who_of, tab_state};
+ghost use Rattle.std.specs.Prelude.{◌≡◌, Some, fold, if◌then◌else◌};
+ghost use Rattle.facts.specs.Tabs.{is_root, seen_at, ended_by, session_after, is_live, live_session, who_of, tab_after, tab_state};
 ghost use Rattle.login_base.specs.IdText.{same_id};
 
 use crate::fact::Fact;
 use crate::facts::Facts;
-use crate::scan::{Fold, fold_by};
+use crate::scan::{Fold, fold_by, fold_in};
 use login_base::{Code, RootKey, SessionId, Steps, TabKey, UserId, same_id};
 use std::sync::ledger::Ledger;
 
@@ -72,6 +72,15 @@ impl TabState {
             Some(own) => Some(own.user),
             None => self.named,
         }
+    }
+}
+
+impl TabState {
+    /// What is known of a tab of a root, where this was known before these facts.
+    pub fn with(self, root: RootKey, tab: TabKey, more: &[Fact]) -> TabState
+        ensures value { result ≡ fold (tab_after root tab) self more.now }
+    {
+        fold_in(more, &TabOf { root, tab }, self)
     }
 }
 
