@@ -107,12 +107,16 @@ posted facts moment known asked code form finding =
 abbrev pub after_evidence : List Fact → Outcome → Outcome
 after_evidence evidence outcome = record outcome { added = evidence ++ outcome.added }
 
+-- the tab as it is known over these facts
+abbrev pub behind : KnownTab → List Fact → KnownTab
+behind known facts = record known { state = tab_state known.root known.tab facts }
+
 -- the evidence is added, and stays; then the tab shows what it comes to
 unfoldable pub accepted : List Fact → Setting → KnownTab → Form → UserId → ℕ → Answer
 accepted facts setting known form user credential =
     let evidence = evidence_of (record { tab = known.tab; user = user; credential = credential; moment = setting.moment }) form in
     let more = facts ++ evidence in
-    answered_in known.tab (after_evidence evidence (shown more setting (record known { state = tab_state known.root known.tab more })))
+    answered_in known.tab (after_evidence evidence (shown more setting (behind known more)))
 
 -- a failure counts where the user is there
 abbrev pub failure_of : Option UserId → ℕ → List Fact

@@ -1,6 +1,7 @@
 ghost use Rattle.std.specs.Prelude.{◌≡◌, ◌≤◌, ◌-◌, ◌^◌, ◌++◌, IfOk, OnOk};
 ghost use Rattle.facts.specs.Serials.{last_tab_serial, last_stored_serial};
-ghost use Rattle.login_hall.specs.Post.{is_code, current_code, not_other, has_need, is_asked, serial_of, had_by, unmoved, password_check, name_check, check_of, target_password, posted, after_evidence, accepted, failure_of, wrong_credentials, checked, post_where, due_post};
+ghost use Rattle.facts.specs.Tabs.{tab_state};
+ghost use Rattle.login_hall.specs.Post.{behind, is_code, current_code, not_other, has_need, is_asked, serial_of, had_by, unmoved, password_check, name_check, check_of, target_password, posted, after_evidence, accepted, failure_of, wrong_credentials, checked, post_where, due_post};
 ghost use Rattle.login_hall.specs.Progress.{asked_in};
 
 use crate::answer::Answer;
@@ -17,9 +18,7 @@ use crate::refused::{in_tab, refused, refused_in};
 use crate::sequences::joined;
 use crate::shown::{rendered, shown};
 use crate::visit::{known_tab, not_split, same_user, unfinished, user_of};
-use facts::{
-    Chronicle, Fact, Facts, Finding, Form, Need, Next, UserPassword, What, password_of, tab_state,
-};
+use facts::{Chronicle, Fact, Facts, Finding, Form, Need, Next, UserPassword, What, password_of};
 use login_base::{Code, Memory, RootKey, Sequence, Steps, TabKey, UserId, discard, same_id};
 use std::alloc::Global;
 use std::sync::ledger::Ledger;
@@ -199,6 +198,23 @@ fn after_evidence(evidence: Sequence<Fact>, outcome: Outcome) -> Result<Outcome,
     Ok(Outcome { what, added })
 }
 
+/// The facts with the evidence behind them, and the tab as it is known by then.
+fn behind<'a>(
+    chronicle: &'a Chronicle,
+    known: &KnownTab,
+    evidence: &'a [Fact],
+) -> (Facts<'a>, KnownTab)
+    requires state { known.now.state ≡ tab_state known.now.root known.now.tab chronicle.now.list }
+    ensures facts { result.0 ≡ chronicle.now.list ++ evidence.now }
+    ensures known { result.1 ≡ behind known.now (chronicle.now.list ++ evidence.now) }
+{
+    let after = KnownTab {
+        state: known.state.with(known.root, known.tab, evidence),
+        ..*known
+    };
+    (Facts::with(chronicle, evidence), after)
+}
+
 /// The evidence is added, and the tab shows what it comes to.
 #[tactic(auto, unfolding(crate::specs::Post::accepted))]
 fn accepted<L: Ledger>(
@@ -210,6 +226,7 @@ fn accepted<L: Ledger>(
     credential: u64,
     steps: &mut Steps<L>,
 ) -> Result<Answer, Memory>
+    requires state { known.now.state ≡ tab_state known.now.root known.now.tab chronicle.now.list }
     requires tabs { last_tab_serial chronicle.now.list ≤ 2 ^ 63 - 8 }
     requires stored { last_stored_serial chronicle.now.list ≤ 2 ^ 63 - 8 }
     ensures { IfOk result (λ answer. answer ≡ accepted chronicle.now.list context.now known.now form.now user credential) }
@@ -221,11 +238,7 @@ fn accepted<L: Ledger>(
         moment: context.moment,
     };
     let evidence = passing.evidence(context.alloc, form)?;
-    let more = Facts::with(chronicle, evidence.as_slice());
-    let after = KnownTab {
-        state: tab_state(&more, known.root, known.tab, steps),
-        ..*known
-    };
+    let (more, after) = behind(chronicle, known, evidence.as_slice());
     let outcome = shown(&more, context, &after, steps)?;
     Ok(answered_in(known.tab, after_evidence(evidence, outcome)?))
 }
@@ -274,6 +287,7 @@ fn checked<L: Ledger>(
     check: Check,
     steps: &mut Steps<L>,
 ) -> Result<Answer, Memory>
+    requires state { known.now.state ≡ tab_state known.now.root known.now.tab chronicle.now.list }
     requires tabs { last_tab_serial chronicle.now.list ≤ 2 ^ 63 - 8 }
     requires stored { last_stored_serial chronicle.now.list ≤ 2 ^ 63 - 8 }
     ensures { IfOk result (λ answer. answer ≡ checked chronicle.now.list context.now known.now asked form.now check) }
@@ -301,6 +315,7 @@ fn post_where<L: Ledger>(
     asked: Sequence<Need>,
     steps: &mut Steps<L>,
 ) -> Result<Answer, Memory>
+    requires state { known.now.state ≡ tab_state known.now.root known.now.tab chronicle.now.list }
     requires tabs { last_tab_serial chronicle.now.list ≤ 2 ^ 63 - 8 }
     requires stored { last_stored_serial chronicle.now.list ≤ 2 ^ 63 - 8 }
     ensures { IfOk result (λ answer. answer ≡ post_where chronicle.now.list context.now code.now form.now finding.now known.now asked) }

@@ -1,9 +1,8 @@
-ghost use Rattle.std.specs.Prelude.{◌≡◌, ◌<◌, ◌≤◌, ◌+◌, ◌-◌, ◌^◌, ◌++◌, false, length, IfOk, OnOk};
+ghost use Rattle.std.specs.Prelude.{◌≡◌, ◌<◌, ◌≤◌, ◌+◌, ◌-◌, ◌^◌, ◌++◌, length, IfOk, OnOk};
 ghost use Rattle.std.specs.Option.{option_copied};
 ghost use Rattle.facts.specs.Realms.{last_version};
 ghost use Rattle.facts.specs.Serials.{last_stored_serial};
-ghost use Rattle.std.specs.List.{list_any};
-ghost use Rattle.login_hall.specs.Start.{put_without, IsPutGiven, IsPut, IsStart, realm_facts, disabled_facts, password_facts, user_facts, new_user_facts, serial_after, users_facts, users_after, serials_of, is_mark};
+ghost use Rattle.login_hall.specs.Start.{put_without, IsPutGiven, IsPut, IsStart, realm_facts, disabled_facts, password_facts, user_facts, new_user_facts, serial_after, users_facts, users_after, serials_of};
 
 use crate::sequences::joined;
 use facts::{

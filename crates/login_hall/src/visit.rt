@@ -1,4 +1,5 @@
-ghost use Rattle.std.specs.Prelude.{◌≡◌};
+ghost use Rattle.std.specs.Prelude.{◌≡◌, IfOk};
+ghost use Rattle.facts.specs.Tabs.{tab_state};
 ghost use Rattle.login_hall.specs.Visit.{tab_in, known_tab, user_of, same_user, not_split, unfinished, going};
 
 use crate::known_tab::KnownTab;
@@ -15,7 +16,8 @@ fn tab_in<L: Ledger>(
     tab: TabKey,
     steps: &mut Steps<L>,
 ) -> Result<KnownTab, Refusal>
-    ensures { result ≡ tab_in facts.now root tab }
+    ensures known { result ≡ tab_in facts.now root tab }
+    ensures state { IfOk result (λ known. known.state ≡ tab_state known.root known.tab facts.now) }
 {
     let state = tab_state(facts, root, tab, steps);
     match state.opening {
@@ -37,7 +39,8 @@ pub(crate) fn known_tab<L: Ledger>(
     tab: TabKey,
     steps: &mut Steps<L>,
 ) -> Result<KnownTab, Refusal>
-    ensures { result ≡ known_tab facts.now root.now tab }
+    ensures known { result ≡ known_tab facts.now root.now tab }
+    ensures state { IfOk result (λ known. known.state ≡ tab_state known.root known.tab facts.now) }
 {
     match root {
         Some(root) => tab_in(facts, *root, tab, steps),
