@@ -2,14 +2,15 @@
 use Rattle.std.specs.Prelude.{◌≡◌, ℕ, List}
 use Rattle.facts.specs.declared.fact.Fact.{Fact}
 use Rattle.facts.specs.Realms.{last_version}
-use Rattle.facts.specs.Serials.{last_tab_serial, last_stored_serial}
+use Rattle.facts.specs.Serials.{last_tab_serial, last_stored_serial, last_known_serial}
 
 pub record Kept : Type 0 where
   pub list : List Fact
   pub waiting : List Fact
 
--- both counters and the version are those of the list
-pub record IsCounted (list : List Fact) (tabs stored number : ℕ) : Type 0 where
+-- the serials and the version are those of the list
+pub record IsCounted (list : List Fact) (tabs stored known number : ℕ) : Type 0 where
   pub tab_serial : tabs ≡ last_tab_serial list
   pub stored_serial : stored ≡ last_stored_serial list
+  pub known_serial : known ≡ last_known_serial list
   pub version : number ≡ last_version list

@@ -11,6 +11,7 @@ use Rattle.facts.specs.declared.fact.Fact.TheVariants as facts
 use Rattle.facts.specs.declared.tabs.Opening.{Opening}
 use Rattle.facts.specs.declared.tabs.RootSession.{RootSession}
 use Rattle.facts.specs.declared.tabs.TabState.{TabState}
+use Rattle.facts.specs.Serials.{last_known_serial}
 
 -- ---- the session of a root
 
@@ -85,6 +86,10 @@ no_tab = record { opening = None; code = None; named = None; completed = false; 
 -- what is known of a tab of a root
 unfoldable pub tab_state : RootKey → TabKey → List Fact → TabState
 tab_state root tab facts = fold (tab_after root tab) no_tab facts
+
+-- both are newer than every root and tab that the facts name
+abbrev pub are_new : RootKey → TabKey → List Fact → Bool
+are_new root tab facts = nat_lt (last_known_serial facts) root.0.serial && nat_lt (last_known_serial facts) tab.0.serial
 
 -- the session that the root has now
 abbrev pub live_session : ℕ → TabState → Option RootSession

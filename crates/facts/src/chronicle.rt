@@ -1,11 +1,11 @@
 ghost use Rattle.std.specs.Prelude.{◌≡◌, ◌+◌, ◌<◌, [], ◌++◌, length, Some, IfOk, OnOk, OnErr, slice_get};
 ghost use Rattle.facts.specs.Realms.{last_version};
-ghost use Rattle.facts.specs.Serials.{last_tab_serial, last_stored_serial};
+ghost use Rattle.facts.specs.Serials.{last_tab_serial, last_stored_serial, last_known_serial};
 
 use crate::fact::Fact;
 use crate::realms::Version;
 use crate::scan::fold_in;
-use crate::serials::{StoredSerial, TabSerial};
+use crate::serials::{KnownSerial, StoredSerial, TabSerial};
 use login_base::{Duplicate, Memory, Steps};
 use std::alloc::Global;
 use std::marker::Model;
@@ -20,6 +20,8 @@ pub struct Chronicle {
     /// The last used serials of both counters.
     tab_serial: u64,
     stored_serial: u64,
+    /// The greatest serial of a root or a tab.
+    known_serial: u64,
     /// The version of the last realm.
     version: u64,
 }
@@ -36,7 +38,7 @@ impl Model for Chronicle {
 
     ghost view = { λ c. record { list = c.list.items; waiting = c.waiting.items } };
 
-    ghost invariant = { λ c. (vec_len c.list + vec_len c.waiting ≤ vec_capacity c.list) × IsCounted c.list.items c.tab_serial c.stored_serial c.version };
+    ghost invariant = { λ c. (vec_len c.list + vec_len c.waiting ≤ vec_capacity c.list) × IsCounted c.list.items c.tab_serial c.stored_serial c.known_serial c.version };
 }
 
 /// Copies of the facts.
@@ -52,7 +54,7 @@ fn copies(alloc: Global, facts: &[Fact]) -> Result<Vec<Fact>, Memory>
 
 impl Chronicle {
     /// An empty list, which takes no memory.
-    #[tactic(auto, unfolding(crate::specs::Serials::last_tab_serial, crate::specs::Serials::last_stored_serial, crate::specs::Realms::last_version))]
+    #[tactic(auto, unfolding(crate::specs::Serials::last_tab_serial, crate::specs::Serials::last_stored_serial, crate::specs::Serials::last_known_serial, crate::specs::Realms::last_version))]
     pub fn make(alloc: Global) -> Chronicle
         ensures list { result.list ≡ [] }
         ensures waiting { result.waiting ≡ [] }
@@ -63,6 +65,7 @@ impl Chronicle {
             waiting: Vec::new(alloc),
             tab_serial: 0,
             stored_serial: 0,
+            known_serial: 0,
             version: 0,
         }
     }
@@ -97,6 +100,13 @@ impl Chronicle {
         self.stored_serial
     }
 
+    /// The greatest serial of a root or a tab that the facts name.
+    pub(crate) fn last_known_serial(&self) -> u64
+        ensures value { result ≡ last_known_serial self.now.list }
+    {
+        self.known_serial
+    }
+
     /// The version of the last realm that was put, 0 where there is none.
     pub fn last_version(&self) -> u64
         ensures value { result ≡ last_version self.now.list }
@@ -117,7 +127,7 @@ impl Chronicle {
     }
 
     /// Moves the facts that wait to the end of the list. It takes no memory.
-    #[tactic(auto, using(crate::proofs::SerialLemmas::last_tab_serial_more, crate::proofs::SerialLemmas::last_stored_serial_more, crate::proofs::InForce::last_version_more))]
+    #[tactic(auto, using(crate::proofs::SerialLemmas::last_tab_serial_more, crate::proofs::SerialLemmas::last_stored_serial_more, crate::proofs::SerialLemmas::last_known_serial_more, crate::proofs::InForce::last_version_more))]
     pub fn add(&mut self)
         ensures list { self.new.list ≡ self.old.list ++ self.old.waiting }
         ensures waiting { self.new.waiting ≡ [] }
@@ -125,6 +135,7 @@ impl Chronicle {
         let waiting = self.waiting.as_slice();
         self.tab_serial = fold_in(waiting, &TabSerial, self.tab_serial);
         self.stored_serial = fold_in(waiting, &StoredSerial, self.stored_serial);
+        self.known_serial = fold_in(waiting, &KnownSerial, self.known_serial);
         self.version = fold_in(waiting, &Version, self.version);
         let Ok(()) = self.list.append(&mut self.waiting) else {
             unreachable!()

@@ -51,6 +51,36 @@ impl Fold for StoredSerial {
     }
 }
 
+/// Carries the greatest serial of a root or a tab.
+#[derive(Clone, Copy, Debug)]
+pub(crate) struct KnownSerial;
+
+impl Fold for KnownSerial {
+    ghost use Rattle.facts.specs.Serials.{known_serial_after};
+
+    type Carried = u64;
+
+    ghost carry = { λ _. known_serial_after };
+
+    fn after(&self, carried: &mut u64, fact: &Fact) {
+        match fact {
+            Fact::Opened { root, tab, .. } => {
+                *carried = (*carried).max(root.0.serial).max(tab.0.serial);
+            }
+            Fact::Rendered { tab, .. } => *carried = (*carried).max(tab.0.serial),
+            Fact::Named { tab, .. } => *carried = (*carried).max(tab.0.serial),
+            Fact::Passed { tab, .. } => *carried = (*carried).max(tab.0.serial),
+            Fact::Completed { tab, .. } => *carried = (*carried).max(tab.0.serial),
+            Fact::Session {
+                root: Some(root),
+                ..
+            } => *carried = (*carried).max(root.0.serial),
+            Fact::SecretSet { by: Some(tab), .. } => *carried = (*carried).max(tab.0.serial),
+            _ => {}
+        }
+    }
+}
+
 /// The last used serial of the counter of roots, tabs and codes.
 #[tactic(auto, using(crate::proofs::SerialLemmas::last_tab_serial_more))]
 pub fn last_tab_serial(facts: &Facts<'_>) -> u64

@@ -1,7 +1,8 @@
 ghost use Rattle.std.specs.Prelude.{◌≡◌, Some, fold, if◌then◌else◌};
-ghost use Rattle.facts.specs.Tabs.{is_root, seen_at, ended_by, session_after, is_live, live_session, who_of, tab_after, tab_state};
+ghost use Rattle.facts.specs.Tabs.{is_root, seen_at, ended_by, session_after, is_live, live_session, who_of, tab_after, are_new, tab_state};
 ghost use Rattle.login_base.specs.IdText.{same_id};
 
+use crate::chronicle::Chronicle;
 use crate::fact::Fact;
 use crate::facts::Facts;
 use crate::scan::{Fold, fold_by, fold_in};
@@ -202,8 +203,17 @@ impl Fold for TabOf {
     }
 }
 
-/// What is known of a tab of a root.
-#[tactic(auto, unfolding(crate::specs::Tabs::tab_state))]
+/// Whether a root and a tab are newer than all that these facts name.
+fn are_new(chronicle: &Chronicle, root: RootKey, tab: TabKey) -> bool
+    ensures { result ≡ are_new root tab chronicle.now.list }
+{
+    let known = chronicle.last_known_serial();
+    known < root.0.serial && known < tab.0.serial
+}
+
+/// What is known of a tab of a root. Where both are newer than all that the chronicle names, its
+/// facts aren't read.
+#[tactic(auto, unfolding(crate::specs::Tabs::tab_state), using(crate::proofs::TabLemmas::new_tab_more))]
 pub fn tab_state<L: Ledger>(
     facts: &Facts<'_>,
     root: RootKey,
@@ -219,5 +229,10 @@ pub fn tab_state<L: Ledger>(
         completed: false,
         session: None,
     };
-    fold_by(facts, &TabOf { root, tab }, nothing, steps)
+    let of = TabOf { root, tab };
+    if are_new(facts.chronicle, root, tab) {
+        fold_in(facts.more, &of, nothing)
+    } else {
+        fold_by(facts, &of, nothing, steps)
+    }
 }

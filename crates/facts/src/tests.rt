@@ -321,6 +321,18 @@ fn says<L: Ledger, R: Abort>(
     assert!(rt; !state.completed);
     let other = tab_state(&facts, root, TabKey(id(9)), &mut steps);
     assert_eq!(rt; other.opening, None);
+    let (root, tab) = (RootKey(id(6)), TabKey(id(7)));
+    let opened = [Fact::Opened {
+        root,
+        tab,
+        version: 1,
+        level: 2,
+        life: 60_000,
+        moment: 6,
+    }];
+    let newer = tab_state(&Facts::with(chronicle, &opened), root, tab, &mut steps);
+    assert_eq!(rt; newer.opening.map_or(0, |opening| opening.level), 2);
+    assert_eq!(rt; newer.code, None);
     Ok(())
 }
 
