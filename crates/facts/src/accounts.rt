@@ -10,11 +10,11 @@ use std::sync::ledger::Ledger;
 
 /// Picks the user who is put under a name.
 #[derive(Clone, Copy)]
-struct PutAs<'a> {
+struct UserPutAs<'a> {
     name: &'a Name,
 }
 
-impl<'a> Pick for PutAs<'a> {
+impl<'a> Pick for UserPutAs<'a> {
     ghost use Rattle.facts.specs.Accounts.{put_as};
 
     type Out = UserId;
@@ -38,7 +38,7 @@ pub fn account_named<L: Ledger>(
 ) -> Option<UserId>
     ensures value { result ≡ account_named name.now facts.now }
 {
-    last_by(facts, &PutAs { name }, steps)
+    last_by(facts, &UserPutAs { name }, steps)
 }
 
 /// Finds the name that a user is put under.

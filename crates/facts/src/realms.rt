@@ -32,11 +32,11 @@ impl Fold for Version {
 
 /// Finds the realm that is put as a version.
 #[derive(Clone, Copy, Debug)]
-struct PutAs {
+struct RealmPutAs {
     version: u64,
 }
 
-impl Hold for PutAs {
+impl Hold for RealmPutAs {
     ghost use Rattle.facts.specs.Realms.{put_as};
 
     type Held = Realm;
@@ -68,7 +68,7 @@ pub fn realm_of<'a, L: Ledger>(
 ) -> Option<&'a Realm>
     ensures value { option_copied result ≡ realm_of version facts.now }
 {
-    first_held(facts, &PutAs { version }, steps)
+    first_held(facts, &RealmPutAs { version }, steps)
 }
 
 /// The realm in force: that of the last version.

@@ -32,12 +32,12 @@ pub trait Fold {
         ensures value { carried.new ≡ carry self.now carried.old fact.now };
 }
 
-fn newer<A: Copy>(new: Option<A>, old: Option<A>) -> Option<A>
-    ensures { result ≡ or_else new old }
+/// Takes what is newer, in its place: most facts have nothing new.
+fn renew<A: Copy>(found: &mut Option<A>, new: Option<A>)
+    ensures { found.new ≡ or_else new found.old }
 {
-    match new {
-        Some(value) => Some(value),
-        None => old,
+    if new.is_some() {
+        *found = new;
     }
 }
 
@@ -58,7 +58,7 @@ fn last_in<P: Pick>(more: &[Fact], pick: &P) -> Option<P::Out>
 {
     let mut found = None;
     for fact in more {
-        found = newer(pick.of(fact), found);
+        renew(&mut found, pick.of(fact));
     }
     found
 }
@@ -73,7 +73,7 @@ fn last_kept<P: Pick, L: Ledger>(
 {
     let mut found = None;
     for i in 0..chronicle.len() {
-        found = newer(pick.of(chronicle.at(i, steps)), found);
+        renew(&mut found, pick.of(chronicle.at(i, steps)));
     }
     found
 }
@@ -87,8 +87,9 @@ pub fn last_by<P: Pick, L: Ledger>(
 ) -> Option<P::Out>
     ensures value { result ≡ last_of (P.pick pick.now) facts.now }
 {
-    let kept = last_kept(facts.chronicle, pick, steps);
-    newer(last_in(facts.more, pick), kept)
+    let mut found = last_kept(facts.chronicle, pick, steps);
+    renew(&mut found, last_in(facts.more, pick));
+    found
 }
 
 /// What is carried to the end of these facts.

@@ -5,4 +5,4 @@ use Rattle.facts.proofs.scan.last_kept.Goals as goal
 pub loop-i-preserved : goal.loop-i-preserved
 loop-i-preserved g c =
     let more = last_of-more (g.P.Pick.pick c.args.pick.now) c.args.chronicle.now.list c.loop-i.i c.at.result.now c.at.ensures.fact in
-    rw (c.newer-found.ensures, c.of.ensures.value, c.loop-i.invariant) (sym more)
+    rw (c.renew.ensures, c.of.ensures.value, c.loop-i.invariant) (sym more)
