@@ -42,7 +42,8 @@ use Rattle.login_hall.specs.declared.refusal.Refusal.TheVariants.{Stale, Finishe
 use Rattle.login_hall.specs.Forms.{named_by, target_of, evidence_of}
 use Rattle.login_hall.specs.Ids.{next_session}
 use Rattle.login_hall.specs.Laws.{IsAsked}
-use Rattle.login_hall.specs.Post.{is_code, current_code, not_other, is_asked, unmoved, target_password, password_check, name_check, check_of, posted, accepted, wrong_credentials, checked, post_where, post_in, due_post, is_done, is_evidence, refused_as_finished}
+use Rattle.login_hall.specs.PasswordFor.{password_for}
+use Rattle.login_hall.specs.Post.{behind, is_code, current_code, not_other, is_asked, unmoved, password_check, name_check, check_of, posted, accepted, wrong_credentials, checked, post_where, post_in, due_post, is_done, is_evidence, refused_as_finished}
 use Rattle.login_hall.specs.Progress.{truths_of, asked_of, has_password, blocked, first_denied, first_not_configured, denied_or, not_configured, asked_or, ready_for, lacking, progress_in, progress_under, progress_of, asked_in}
 use Rattle.login_hall.specs.Refusals.{◌>>=◌, what_of, settled, settled_in}
 use Rattle.login_hall.specs.Setting.{Setting}
@@ -55,7 +56,7 @@ first_passed : {A : Type 0} (first : Result (Unit {0}) Refusal) (more : Unit {0}
 first_passed (Ok u) more x h = (refl, h)
 first_passed (Err refusal) more x h = absurd cc
 
-test_passed : (b : Bool) (refusal : Refusal) → ◌≡◌ {A = Result (Unit {0}) Refusal} (if b then Ok tt else Err refusal) (Ok tt) → b ≡ true
+pub test_passed : (b : Bool) (refusal : Refusal) → ◌≡◌ {A = Result (Unit {0}) Refusal} (if b then Ok tt else Err refusal) (Ok tt) → b ≡ true
 test_passed true refusal h = refl
 test_passed false refusal h = absurd cc
 
@@ -63,14 +64,14 @@ ok_is : (is check : Check) → ◌≡◌ {A = Result Check Refusal} (Ok is) (Ok 
 ok_is is check h = cc
 
 -- the gates of a post that was checked, and its check
-record Checked (list : List Fact) (moment : ℕ) (known : KnownTab) (asked : List Need) (code : Code) (form : Form) (finding : Finding) (check : Check) : Type 0 where
-  code_shown : is_code code known.state.code ≡ true
-  whole : not_split moment known ≡ Ok tt
-  same : not_other moment known (named_by list form) ≡ Ok tt
-  fitting : is_asked asked form ≡ Ok tt
-  check_is : check_of (named_by list form) (target_of (named_by list form) (who_of moment known.state) form) (target_password list (target_of (named_by list form) (who_of moment known.state) form)) form finding ≡ check
+pub record Checked (list : List Fact) (moment : ℕ) (known : KnownTab) (asked : List Need) (code : Code) (form : Form) (finding : Finding) (check : Check) : Type 0 where
+  pub code_shown : is_code code known.state.code ≡ true
+  pub whole : not_split moment known ≡ Ok tt
+  pub same : not_other moment known (named_by list form) ≡ Ok tt
+  pub fitting : is_asked asked form ≡ Ok tt
+  pub check_is : check_of (named_by list form) (target_of (named_by list form) (who_of moment known.state) form) (password_for list (target_of (named_by list form) (who_of moment known.state) form)) form finding ≡ check
 
-gates_passed : (list : List Fact) (moment : ℕ) (known : KnownTab) (asked : List Need) (code : Code) (form : Form) (finding : Finding) (check : Check)
+pub gates_passed : (list : List Fact) (moment : ℕ) (known : KnownTab) (asked : List Need) (code : Code) (form : Form) (finding : Finding) (check : Check)
     → posted list moment known asked code form finding ≡ Ok check → Checked list moment known asked code form finding check
 unfolding posted
 gates_passed list moment known asked code form finding check h =
@@ -80,7 +81,7 @@ gates_passed list moment known asked code form finding check h =
     let fourth = first_passed (unfinished known) _ check third.1 in
     let fifth = first_passed (is_asked asked form) _ check fourth.1 in
     let target = target_of (named_by list form) (who_of moment known.state) form in
-    let sixth = first_passed (unmoved (target_password list target) finding) _ check fifth.1 in
+    let sixth = first_passed (unmoved (password_for list target) finding) _ check fifth.1 in
     record {
       code_shown = test_passed (is_code code known.state.code) (Stale known.state.code) first.0;
       whole = second.0;
@@ -119,20 +120,20 @@ module _ (list : List Fact) (setting : Setting) (root : RootKey) (tab : TabKey) 
 
 -- ---- what the facts of a completion leave
 
-same_id-same : (a : Id) → same_id a a ≡ true
+pub same_id-same : (a : Id) → same_id a a ≡ true
 same_id-same a = rw (eq-eqb a.serial a.serial refl, eq-eqb a.high a.high refl, eq-eqb a.low a.low refl) refl
 
-more_state : (root : RootKey) (tab : TabKey) (old more : List Fact) → tab_state root tab (old ++ more) ≡ fold (tab_after root tab) (tab_state root tab old) more
+pub more_state : (root : RootKey) (tab : TabKey) (old more : List Fact) → tab_state root tab (old ++ more) ≡ fold (tab_after root tab) (tab_state root tab old) more
 unfolding tab_state
 more_state root tab old more = fold_append (tab_after root tab) no_tab old more
 
 -- whom the evidence of a form names
-abbrev named_as : UserId → Form → Option UserId
+abbrev pub named_as : UserId → Form → Option UserId
 named_as user (forms.Username execution name) = Some user
 named_as user (forms.NamePassword execution name password) = Some user
 named_as user form = None
 
-abbrev with_name : TabState → Option UserId → TabState
+abbrev pub with_name : TabState → Option UserId → TabState
 with_name state user = record state { named = or_else user state.named }
 
 evidence_state : (root : RootKey) (old : List Fact) (passing : Passing) (form : Form)
@@ -226,11 +227,12 @@ finished_posted : (list : List Fact) (moment : ℕ) (known : KnownTab) (asked : 
 unfolding posted
 finished_posted list moment known asked code form finding code_shown whole same completed = rw (code_shown, whole, same, completed) refl
 
-module _ (list : List Fact) (root : RootKey) (tab : TabKey) (code : Code) (form : Form) (later : Setting) (finding : Finding) (opening : Opening) (state : TabState) (own : RootSession) where
-  found_later : tab_state root tab list ≡ state → state.opening ≡ Some opening → tab_in list root tab ≡ Ok (record { root = root; tab = tab; opening = opening; state = state })
-  unfolding tab_in
-  found_later is_state is_opening = rw (is_state, is_opening) refl
+pub found_later : (list : List Fact) (root : RootKey) (tab : TabKey) (opening : Opening) (state : TabState) → tab_state root tab list ≡ state → state.opening ≡ Some opening
+    → tab_in list root tab ≡ Ok (record { root = root; tab = tab; opening = opening; state = state })
+unfolding tab_in
+found_later list root tab opening state is_state is_opening = rw (is_state, is_opening) refl
 
+module _ (list : List Fact) (root : RootKey) (tab : TabKey) (code : Code) (form : Form) (later : Setting) (finding : Finding) (opening : Opening) (state : TabState) (own : RootSession) where
   whole_later : (named : Option UserId) → state.session ≡ Some own → same_user named (Some own.user) ≡ Ok tt → same_user named (user_of (live_session later.moment state)) ≡ Ok tt
   whole_later named is fits = rw is (live_user (is_live later.moment own) own named fits)
 
@@ -243,7 +245,7 @@ module _ (list : List Fact) (root : RootKey) (tab : TabKey) (code : Code) (form 
       let e =
       finished_posted list later.moment known (asked_in (progress_of list later.moment known)) code form finding code_shown
       (whole_later state.named is_session fits) (whole_later (named_by list form) is_session same) completed in
-      rw (found_later is_state is_opening, e) refl
+      rw (found_later list root tab opening state is_state is_opening, e) refl
 
 -- a completion over these facts, behind which the same post is refused as finished
 completed_refused : (more : List Fact) (setting : Setting) (known : KnownTab) (code : Code) (form : Form) (later : Setting) (finding : Finding) (user : UserId)
@@ -269,11 +271,11 @@ completed_refused more setting known code form later finding user is_state is_op
 
 -- ---- whom a check and a tree let in
 
-name_fits : (named : Option UserId) (user : UserId) (credential : ℕ) → name_check named ≡ checks.Fits user credential → named ≡ Some user
+pub name_fits : (named : Option UserId) (user : UserId) (credential : ℕ) → name_check named ≡ checks.Fits user credential → named ≡ Some user
 name_fits (Some other) user credential h = cc
 name_fits None user credential h = absurd cc
 
-password_fits : (target : Option UserId) (password : Option UserPassword) (finding : Finding) (user : UserId) (credential : ℕ) → password_check target password finding ≡ checks.Fits user credential → target ≡ Some user
+pub password_fits : (target : Option UserId) (password : Option UserPassword) (finding : Finding) (user : UserId) (credential : ℕ) → password_check target password finding ≡ checks.Fits user credential → target ≡ Some user
 unfolding password_check
 password_fits None password finding user credential h = absurd cc
 password_fits (Some other) None finding user credential h = absurd cc
@@ -349,49 +351,71 @@ not_done list (refusals.CredentialMoved had now) = refl
 
 -- ---- a repeat
 
+-- the tab of a post behind the evidence that it added
+pub record Behind (list : List Fact) (moment : ℕ) (known : KnownTab) (code : Code) (form : Form) : Type 0 where
+  pub is_state : tab_state known.root known.tab list ≡ known.state
+  pub is_opening : known.state.opening ≡ Some known.opening
+  pub code_shown : is_code code known.state.code ≡ true
+  pub same : same_user known.state.named (user_of (live_session moment known.state)) ≡ Ok tt
+  pub named : (own : UserId) → same_user known.state.named (Some own) ≡ Ok tt → same_user (named_by list form) (Some own) ≡ Ok tt
+
+abbrev pub evidence_in : Setting → KnownTab → Form → UserId → ℕ → List Fact
+evidence_in setting known form user credential = evidence_of (record { tab = known.tab; user = user; credential = credential; moment = setting.moment }) form
+
+module _ (old : List Fact) (setting : Setting) (known : KnownTab) (asked : List Need) (code : Code) (form : Form) (finding : Finding) (user : UserId) (credential : ℕ) where
+  pub state_behind : tab_state known.root known.tab old ≡ known.state → posted old setting.moment known asked code form finding ≡ Ok (checks.Fits user credential)
+      → tab_state known.root known.tab (old ++ evidence_in setting known form user credential) ≡ with_name known.state (named_by old form)
+  state_behind is_state passed =
+      let gates = gates_passed old setting.moment known asked code form finding (checks.Fits user credential) passed in
+      let target = target_of (named_by old form) (who_of setting.moment known.state) form in
+      let named = fits_named old (who_of setting.moment known.state) (password_for old target) form finding user credential gates.check_is in
+      let passing : Passing = record { tab = known.tab; user = user; credential = credential; moment = setting.moment } in
+      evidence_state known.root old passing form ∙ ap (λ (s : TabState). with_name s (named_as user form)) is_state ∙ ap (with_name known.state) (sym named)
+
+  pub passed_behind : tab_state known.root known.tab old ≡ known.state → known.state.opening ≡ Some known.opening → posted old setting.moment known asked code form finding ≡ Ok (checks.Fits user credential)
+      → Behind (old ++ evidence_in setting known form user credential) setting.moment (behind known (old ++ evidence_in setting known form user credential)) code form
+  unfolding not_split
+  passed_behind is_state is_opening passed =
+      let gates = gates_passed old setting.moment known asked code form finding (checks.Fits user credential) passed in
+      let e = state_behind is_state passed in
+      let passing : Passing = record { tab = known.tab; user = user; credential = credential; moment = setting.moment } in
+      let puts = named_kept form old (evidence_of passing form) (evidence_puts passing form) in
+      record {
+        is_state = refl;
+        is_opening = ap (λ (s : TabState). s.opening) e ∙ is_opening;
+        code_shown = ap (λ (s : TabState). is_code code s.code) e ∙ gates.code_shown;
+        same = ap (λ (s : TabState). same_user s.named (user_of (live_session setting.moment s))) e ∙ same_either (named_by old form) known.state.named (user_of (live_session setting.moment known.state)) gates.same gates.whole;
+        named = λ own h.
+            ap (λ (n : Option UserId). same_user n (Some own)) puts
+            ∙ same_named (named_by old form) known.state.named own (ap (λ (s : TabState). same_user s.named (Some own)) (sym e) ∙ h);
+      }
+
 module _ (old : List Fact) (setting : Setting) (root : RootKey) (tab : TabKey) (code : Code) (form : Form) (finding : Finding) (later : Setting) (later_finding : Finding) where
-  repeat_of_progress : (known : KnownTab) (evidence : List Fact) (progress : Progress) → progress_of (old ++ evidence) setting.moment known ≡ progress
-      → tab_state known.root known.tab (old ++ evidence) ≡ known.state → known.state.opening ≡ Some known.opening → is_code code known.state.code ≡ true
-      → same_user known.state.named (user_of (live_session setting.moment known.state)) ≡ Ok tt
-      → ((own : UserId) → same_user known.state.named (Some own) ≡ Ok tt → same_user (named_by (old ++ evidence) form) (Some own) ≡ Ok tt)
+  pub repeat_of_progress : (known : KnownTab) (evidence : List Fact) (progress : Progress) → progress_of (old ++ evidence) setting.moment known ≡ progress
+      → Behind (old ++ evidence) setting.moment known code form
       → IsTrue (is_done (outcome_of (old ++ evidence) setting known progress).what)
       → due_post (old ++ (evidence ++ (outcome_of (old ++ evidence) setting known progress).added)) later (Some known.root) known.tab code form later_finding ≡ refused_as_finished known.tab
   unfolding outcome_of
-  repeat_of_progress known evidence (progresses.Ready user) is is_state is_opening code_shown same named completes =
+  repeat_of_progress known evidence (progresses.Ready user) is now completes =
       let more = old ++ evidence in
-      let e = completed_refused more setting known code form later later_finding user is_state is_opening code_shown same named (progress_who more setting.moment known user is) in
+      let e = completed_refused more setting known code form later later_finding user now.is_state now.is_opening now.code_shown now.same now.named (progress_who more setting.moment known user is) in
       subst (λ (list : List Fact). due_post list later (Some known.root) known.tab code form later_finding ≡ refused_as_finished known.tab)
       (append_assoc old evidence (done more setting known user).added) e
-  repeat_of_progress known evidence (progresses.Asked asked) is is_state is_opening code_shown same named completes = absurd cc
-  repeat_of_progress known evidence (progresses.Denied execution) is is_state is_opening code_shown same named completes = absurd cc
-  repeat_of_progress known evidence (progresses.NotConfigured execution) is is_state is_opening code_shown same named completes = absurd cc
-  repeat_of_progress known evidence progresses.DeadEnd is is_state is_opening code_shown same named completes = absurd cc
+  repeat_of_progress known evidence (progresses.Asked asked) is now completes = absurd cc
+  repeat_of_progress known evidence (progresses.Denied execution) is now completes = absurd cc
+  repeat_of_progress known evidence (progresses.NotConfigured execution) is now completes = absurd cc
+  repeat_of_progress known evidence progresses.DeadEnd is now completes = absurd cc
 
   repeat_of_accepted : (known : KnownTab) (asked : List Need) (user : UserId) (credential : ℕ) → tab_state known.root known.tab old ≡ known.state → known.state.opening ≡ Some known.opening
       → posted old setting.moment known asked code form finding ≡ Ok (checks.Fits user credential)
       → IsTrue (is_done (accepted old setting known form user credential).reply.what)
       → due_post (old ++ (accepted old setting known form user credential).added) later (Some known.root) known.tab code form later_finding ≡ refused_as_finished known.tab
-  unfolding accepted shown not_split
+  unfolding accepted shown
   repeat_of_accepted known asked user credential is_state is_opening passed completes =
-      let gates = gates_passed old setting.moment known asked code form finding (checks.Fits user credential) passed in
-      let passing : Passing = record { tab = known.tab; user = user; credential = credential; moment = setting.moment } in
-      let evidence = evidence_of passing form in
+      let evidence = evidence_in setting known form user credential in
       let more = old ++ evidence in
-      let target = target_of (named_by old form) (who_of setting.moment known.state) form in
-      let named = fits_named old (who_of setting.moment known.state) (target_password old target) form finding user credential gates.check_is in
-      let state = tab_state known.root known.tab more in
-      let e : state ≡ with_name known.state (named_by old form) =
-      evidence_state known.root old passing form ∙ ap (λ (s : TabState). with_name s (named_as user form)) is_state ∙ ap (with_name known.state) (sym named) in
-      let puts = named_kept form old evidence (evidence_puts passing form) in
-      let after : KnownTab = record known { state = state } in
-      repeat_of_progress after evidence (progress_of more setting.moment after) refl refl
-      (ap (λ (s : TabState). s.opening) e ∙ is_opening)
-      (ap (λ (s : TabState). is_code code s.code) e ∙ gates.code_shown)
-      (ap (λ (s : TabState). same_user s.named (user_of (live_session setting.moment s))) e ∙ same_either (named_by old form) known.state.named (user_of (live_session setting.moment known.state)) gates.same gates.whole)
-      (λ own h.
-      ap (λ (n : Option UserId). same_user n (Some own)) puts
-      ∙ same_named (named_by old form) known.state.named own (ap (λ (s : TabState). same_user s.named (Some own)) (sym e) ∙ h))
-      completes
+      repeat_of_progress (behind known more) evidence (progress_of more setting.moment (behind known more)) refl
+      (passed_behind old setting known asked code form finding user credential is_state is_opening passed) completes
 
   repeat_of_check : (known : KnownTab) (asked : List Need) (answer : Result Check Refusal) → tab_state known.root known.tab old ≡ known.state → known.state.opening ≡ Some known.opening
       → posted old setting.moment known asked code form finding ≡ answer

@@ -19,7 +19,7 @@ use Rattle.login_hall.specs.Start.{IsStart, IsPut, is_mark, realm_facts, disable
 
 -- ---- no mark is among them
 
-both_without : (front back : List Fact) → list_any is_mark front ≡ false → list_any is_mark back ≡ false → list_any is_mark (front ++ back) ≡ false
+pub both_without : (front back : List Fact) → list_any is_mark front ≡ false → list_any is_mark back ≡ false → list_any is_mark (front ++ back) ≡ false
 both_without front back f b = list_any-append is_mark front back ∙ ap (λ x. x || list_any is_mark back) f ∙ b
 
 disabled_without : (user : UserId) (enabled : Bool) → list_any is_mark (disabled_facts user enabled) ≡ false

@@ -1,5 +1,5 @@
 -- What the check of a password finds.
-use Rattle.std.specs.Prelude.{◌≡◌, ℕ, Bool, true, List, ◌++◌, Option, Some, None, option_and_then, slice_index, false}
+use Rattle.std.specs.Prelude.{◌≡◌, ℕ, Bool, true, List, ◌++◌, Option, Some, None, slice_index, false}
 use Rattle.std.specs.Int.{w64, to_be_bytes}
 use Rattle.std.specs.Str.{bytes_eq}
 use Rattle.login_base.specs.declared.id.RootKey.{RootKey}
@@ -20,10 +20,10 @@ use Rattle.facts.specs.declared.tabs.Opening.{Opening}
 use Rattle.facts.specs.declared.tabs.TabState.{TabState}
 use Rattle.facts.specs.Accounts.{account_named}
 use Rattle.facts.specs.Passwords.{password_use, password_text, emptied, is_iterations}
-use Rattle.facts.specs.Secrets.{password_of}
 use Rattle.facts.specs.Solved.{SolvedAsk}
 use Rattle.facts.specs.Tabs.{tab_state, who_of}
 use Rattle.mac_kit.specs.Pbkdf2.{pbkdf2_sha256}
+use Rattle.login_hall.specs.PasswordFor.{password_for}
 use Rattle.login_hall.specs.Realms.{realm_now}
 use Rattle.login_hall.specs.declared.task.Task.{Task}
 use Rattle.login_hall.specs.declared.task.Task.TheVariants as tasks
@@ -53,8 +53,8 @@ target_of chronicle moment (asks.Post root tab code form) = form_target chronicl
 target_of chronicle moment ask = None
 
 -- the password that the ask has to fit
-unfoldable pub target_password : List Fact → ℕ → Ask → Option UserPassword
-target_password chronicle moment ask = option_and_then (λ user. password_of user chronicle) (target_of chronicle moment ask)
+abbrev pub target_password : List Fact → ℕ → Ask → Option UserPassword
+target_password chronicle moment ask = password_for chronicle (target_of chronicle moment ask)
 
 -- what is to be done with the password of an ask: a new one is hashed so often
 unfoldable pub task_for : PasswordUse → Option UserPassword → ℕ → Words → Option Task

@@ -9,6 +9,7 @@ pub mod Laws
 pub mod Legal
 pub mod NewTab
 pub mod Page
+pub mod PasswordFor
 pub mod Plain
 pub mod Post
 pub mod Progress

@@ -1,5 +1,5 @@
 -- What a post is due.
-use Rattle.std.specs.Prelude.{ℕ, Bool, true, false, ◌==◌, List, [], ◌∷◌, ◌++◌, Option, Some, None, Result, Ok, Err, option_and_then, if◌then◌else◌}
+use Rattle.std.specs.Prelude.{ℕ, Bool, true, false, ◌==◌, List, [], ◌∷◌, ◌++◌, Option, Some, None, Result, Ok, Err, if◌then◌else◌}
 use Rattle.std.specs.List.{list_any}
 use Rattle.login_base.specs.IdText.{same_id}
 use Rattle.login_base.specs.declared.id.Code.{Code}
@@ -17,7 +17,6 @@ use Rattle.facts.specs.declared.reply.Need.{Need}
 use Rattle.facts.specs.declared.reply.Next.TheVariants as nexts
 use Rattle.facts.specs.declared.reply.What.{What}
 use Rattle.facts.specs.declared.reply.What.TheVariants as whats
-use Rattle.facts.specs.Secrets.{password_of}
 use Rattle.facts.specs.Tabs.{live_session, who_of, tab_state}
 use Rattle.login_hall.specs.declared.answer.Answer.{Answer}
 use Rattle.login_hall.specs.declared.check.Check.{Check}
@@ -29,6 +28,7 @@ use Rattle.login_hall.specs.declared.refusal.Refusal.TheVariants.{Stale, NotAske
 use Rattle.login_hall.specs.Forms.{named_by, target_of, is_of, evidence_of}
 use Rattle.login_hall.specs.Ids.{next_code}
 use Rattle.login_hall.specs.Page.{answered_in}
+use Rattle.login_hall.specs.PasswordFor.{password_for}
 use Rattle.login_hall.specs.Plain.{in_tab}
 use Rattle.login_hall.specs.Progress.{progress_of, asked_in}
 use Rattle.login_hall.specs.Refusals.{◌>>=◌, settled, settled_in}
@@ -85,14 +85,11 @@ abbrev pub check_of : Option UserId → Option UserId → Option UserPassword �
 check_of named target password (forms.Username execution name) finding = name_check named
 check_of named target password form finding = password_check target password finding
 
-unfoldable pub target_password : List Fact → Option UserId → Option UserPassword
-target_password facts target = option_and_then (λ user. password_of user facts) target
-
 -- the check of a post in a known tab where these executions are asked, or the first refusal
 unfoldable pub posted : List Fact → ℕ → KnownTab → List Need → Code → Form → Finding → Result Check Refusal
 posted facts moment known asked code form finding =
     let target = target_of (named_by facts form) (who_of moment known.state) form in
-    let password = target_password facts target in
+    let password = password_for facts target in
     do
       current ← current_code known code
       whole ← not_split moment known

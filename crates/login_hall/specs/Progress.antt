@@ -1,5 +1,5 @@
 -- How far a tab's login has come.
-use Rattle.std.specs.Prelude.{ℕ, Bool, true, false, not, if◌then◌else◌, List, [], ◌∷◌, Option, Some, None, is_some, option_and_then, find}
+use Rattle.std.specs.Prelude.{ℕ, Bool, true, false, not, if◌then◌else◌, List, [], ◌∷◌, Option, Some, None, is_some, find}
 use Rattle.std.specs.List.{flat_map}
 use Rattle.login_base.specs.declared.id.TabKey.{TabKey}
 use Rattle.login_base.specs.declared.id.UserId.{UserId}
@@ -15,10 +15,10 @@ use Rattle.facts.specs.declared.realm_parts.RealmParts.{RealmParts}
 use Rattle.facts.specs.declared.reply.Need.{Need}
 use Rattle.facts.specs.Evidence.{has_evidence}
 use Rattle.facts.specs.Realms.{realm_of}
-use Rattle.facts.specs.Secrets.{password_of}
 use Rattle.facts.specs.Tabs.{who_of}
 use Rattle.login_hall.specs.declared.known_tab.KnownTab.{KnownTab}
 use Rattle.login_hall.specs.declared.progress.Progress.{Progress}
+use Rattle.login_hall.specs.PasswordFor.{password_for}
 use Rattle.login_hall.specs.declared.progress.Progress.TheVariants.{Ready, Asked, Denied, NotConfigured, DeadEnd}
 
 -- ---- what is true
@@ -45,7 +45,7 @@ truths_of facts tab who leaves = flat_map (λ (leaf : Leaf). if is_true facts ta
 
 -- the user is known and has a password
 unfoldable pub has_password : List Fact → Option UserId → Bool
-has_password facts who = is_some (option_and_then (λ user. password_of user facts) who)
+has_password facts who = is_some (password_for facts who)
 
 -- a name, alone or with a password, can always be asked, a password alone of a user who has one; codes aren't built yet
 abbrev pub can_answer : Bool → Kind → Bool

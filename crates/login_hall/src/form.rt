@@ -1,6 +1,6 @@
 //! What the forms of a post are: whom each names, whose password it gives, and which execution it
 //! answers.
-ghost use Rattle.std.specs.Prelude.{◌≡◌, IfOk};
+ghost use Rattle.std.specs.Prelude.{◌≡◌, [], ◌∷◌, ◌++◌, IfOk, OnOk};
 ghost use Rattle.login_hall.specs.Forms.{named_by, target_of, is_need, is_of, named, passed, evidence_of};
 
 use facts::{Fact, Facts, Form, Need, account_named};
@@ -86,6 +86,20 @@ impl Passing {
         })
     }
 
+    /// Adds the user's name and the passed execution.
+    fn add_named(
+        &self,
+        alloc: Global,
+        execution: &Name,
+        kind: Kind,
+        added: &mut Sequence<Fact>,
+    ) -> Result<(), Memory>
+        ensures { OnOk result (added.new ≡ added.old ++ named self.now ∷ passed self.now execution.now kind ∷ []) }
+    {
+        added.push(self.named())?;
+        added.push(self.passed(alloc, execution, kind)?)
+    }
+
     /// The evidence of an accepted post.
     pub fn evidence(&self, alloc: Global, form: &Form) -> Result<Sequence<Fact>, Memory>
         ensures { IfOk result (λ evidence. evidence ≡ evidence_of self.now form.now) }
@@ -93,12 +107,10 @@ impl Passing {
         let mut added = Sequence::new(alloc);
         match form {
             Form::Username { execution, .. } => {
-                added.push(self.named())?;
-                added.push(self.passed(alloc, execution, Kind::Username)?)?;
+                self.add_named(alloc, execution, Kind::Username, &mut added)?;
             }
             Form::NamePassword { execution, .. } => {
-                added.push(self.named())?;
-                added.push(self.passed(alloc, execution, Kind::Form)?)?;
+                self.add_named(alloc, execution, Kind::Form, &mut added)?;
             }
             Form::Password { execution, .. } => {
                 added.push(self.passed(alloc, execution, Kind::Password)?)?;

@@ -9,11 +9,12 @@ ghost use Rattle.login_hall.specs.Found.{salt_of, who_in, form_target, target_of
 
 use crate::begun::Begun;
 use crate::due::realm_now;
+use crate::password_for::password_for;
 use crate::task::Task;
 use crate::work::Work;
 use facts::{
     Ask, Chronicle, Facts, Finding, Form, PasswordUse, Solved, UserPassword, account_named,
-    password_of, password_use, tab_state, take_password,
+    password_use, tab_state, take_password,
 };
 use login_base::{RootKey, Steps, TabKey, UserId, Words};
 use std::alloc::Global;
@@ -91,7 +92,6 @@ fn target_of<L: Ledger>(
 }
 
 /// The password that an ask has to fit.
-#[tactic(auto, unfolding(crate::specs::Found::target_password))]
 fn target_password<L: Ledger>(
     facts: &Facts<'_>,
     moment: u64,
@@ -100,10 +100,8 @@ fn target_password<L: Ledger>(
 ) -> Option<UserPassword>
     ensures { result ≡ target_password facts.now moment ask.now }
 {
-    match target_of(facts, moment, ask, steps) {
-        Some(user) => password_of(facts, user, steps),
-        None => None,
-    }
+    let target = target_of(facts, moment, ask, steps);
+    password_for(facts, target, steps)
 }
 
 /// What is to be done with the password of an ask, on a ledger of its own.

@@ -17,6 +17,7 @@ pub mod laws;
 mod new_tab;
 mod outcome;
 mod page;
+mod password_for;
 mod post;
 mod progress;
 mod proposal;

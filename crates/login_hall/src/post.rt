@@ -1,7 +1,7 @@
 ghost use Rattle.std.specs.Prelude.{◌≡◌, ◌≤◌, ◌-◌, ◌^◌, ◌++◌, IfOk, OnOk};
 ghost use Rattle.facts.specs.Serials.{last_tab_serial, last_stored_serial};
 ghost use Rattle.facts.specs.Tabs.{tab_state};
-ghost use Rattle.login_hall.specs.Post.{behind, is_code, current_code, not_other, has_need, is_asked, serial_of, had_by, unmoved, password_check, name_check, check_of, target_password, posted, after_evidence, accepted, failure_of, wrong_credentials, checked, post_where, due_post};
+ghost use Rattle.login_hall.specs.Post.{behind, is_code, current_code, not_other, has_need, is_asked, serial_of, had_by, unmoved, password_check, name_check, check_of, posted, after_evidence, accepted, failure_of, wrong_credentials, checked, post_where, due_post};
 ghost use Rattle.login_hall.specs.Progress.{asked_in};
 
 use crate::answer::Answer;
@@ -12,13 +12,14 @@ use crate::ids::next_code;
 use crate::known_tab::KnownTab;
 use crate::outcome::Outcome;
 use crate::page::answered_in;
+use crate::password_for::password_for;
 use crate::progress::{Progress, progress_of};
 use crate::refusal::Refusal;
 use crate::refused::{in_tab, refused, refused_in};
 use crate::sequences::joined;
 use crate::shown::{rendered, shown};
 use crate::visit::{known_tab, not_split, same_user, unfinished, user_of};
-use facts::{Chronicle, Fact, Facts, Finding, Form, Need, Next, UserPassword, What, password_of};
+use facts::{Chronicle, Fact, Facts, Finding, Form, Need, Next, UserPassword, What};
 use login_base::{Code, Memory, RootKey, Sequence, Steps, TabKey, UserId, discard, same_id};
 use std::alloc::Global;
 use std::sync::ledger::Ledger;
@@ -146,21 +147,6 @@ fn check_of(
     }
 }
 
-/// The password that the target has.
-#[tactic(auto, unfolding(crate::specs::Post::target_password))]
-fn target_password<L: Ledger>(
-    facts: &Facts<'_>,
-    target: Option<UserId>,
-    steps: &mut Steps<L>,
-) -> Option<UserPassword>
-    ensures { result ≡ target_password facts.now target }
-{
-    match target {
-        Some(user) => password_of(facts, user, steps),
-        None => None,
-    }
-}
-
 /// The check of a post in a known tab where these executions are asked, or the first refusal.
 #[tactic(auto, unfolding(crate::specs::Post::posted))]
 fn posted<L: Ledger>(
@@ -177,7 +163,7 @@ fn posted<L: Ledger>(
 {
     let named = named_by(facts, form, steps);
     let target = target_of(named, known.state.who(moment), form);
-    let password = target_password(facts, target, steps);
+    let password = password_for(facts, target, steps);
     current_code(known, code)?;
     not_split(moment, known)?;
     not_other(moment, known, named)?;

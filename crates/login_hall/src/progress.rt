@@ -4,7 +4,8 @@ ghost use Rattle.flow_tree.specs.Flow.{flow_needs};
 ghost use Rattle.login_hall.specs.Progress.{has_evidence_of, is_true_by, is_true, truths_of, has_password, can_answer, asked_as, asked_of, is_deny, lacks_setup, is_set_up, first_denied, first_not_configured, blocked, lacking, progress_in, progress_of};
 
 use crate::known_tab::KnownTab;
-use facts::{Facts, Need, has_evidence, password_of, realm_of};
+use crate::password_for::password_for;
+use facts::{Facts, Need, has_evidence, realm_of};
 use flow_tree::{Kind, Leaf, Tree, Truths};
 use login_base::{Duplicate, Memory, Name, Sequence, Steps, TabKey, UserId};
 use std::alloc::Global;
@@ -98,10 +99,7 @@ fn truths_of<L: Ledger>(
 fn has_password<L: Ledger>(facts: &Facts<'_>, who: Option<UserId>, steps: &mut Steps<L>) -> bool
     ensures { result ≡ has_password facts.now who }
 {
-    match who {
-        Some(user) => password_of(facts, user, steps).is_some(),
-        None => false,
-    }
+    password_for(facts, who, steps).is_some()
 }
 
 /// Whether an execution of this kind can be answered, by a user who has a password or not.
