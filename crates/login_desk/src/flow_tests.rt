@@ -181,16 +181,18 @@ fn answered(alloc: Global, realm: Realm, script: &str) -> Result<Vec<u8>, Fail> 
 
 /// Flows, scripts, and what the hall answers. `[serial/word]` is an id.
 const FLOWS: [(&[Step], &str, &str); 12] = [
-    // A name on one page, and the password on the next.
+    // A name on one page, and the password on the next. The name's post doesn't count again.
     (
         &[NAME, PASSWORD],
         "1000 100 user-add name=ann&password=pw1
 2000 200 open client=app
 3000 300 post root=[1/200]&tab=[2/202]&code=[3/204]&execution=user&name=ann
+3500 350 post root=[1/200]&tab=[2/202]&code=[3/204]&execution=user&name=ann
 4000 400 post root=[1/200]&tab=[2/202]&code=[4/304]&execution=pw&password=pw1",
         "told user name=ann id=1
 root=[1/200] tab=[2/202] form code=[3/204] asked=user:username
 form code=[4/304] asked=pw:password
+refused 9 Stale current=[4/304]
 done session=[3/406] user=ann level=0
 ",
     ),
@@ -286,11 +288,13 @@ refused 1 BadForm at=client
         "1000 100 user-add name=ann
 2000 200 open client=app
 3000 300 post root=[1/200]&tab=[2/202]&code=[3/204]&execution=user&name=ann
-4000 400 page root=[1/200]&tab=[2/202]",
+4000 400 page root=[1/200]&tab=[2/202]
+5000 500 post root=[1/200]&tab=[2/202]&code=[3/204]&execution=user&name=ann",
         "told user name=ann id=1
 root=[1/200] tab=[2/202] form code=[3/204] asked=user:username
 refused 22 DeadEnd
 refused 22 DeadEnd
+refused 12 NotAsked
 ",
     ),
     // One of two ways: both are asked, and the second step of the one beside the other.
