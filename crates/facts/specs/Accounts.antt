@@ -1,5 +1,5 @@
 -- The accounts.
-use Rattle.std.specs.Prelude.{ℕ, List, Option, Some, None, ◌==◌, if◌then◌else◌}
+use Rattle.std.specs.Prelude.{ℕ, Bool, true, false, List, Option, Some, None, ◌==◌, unwrap_or, if◌then◌else◌}
 use Rattle.std.specs.Str.{bytes_eq}
 use Rattle.login_base.specs.declared.id.UserId.{UserId}
 use Rattle.facts.specs.declared.fact.Fact.{Fact}
@@ -23,3 +23,13 @@ name_put user fact = None
 -- the name of a user
 unfoldable pub name_of : UserId → List Fact → Option (List ℕ)
 name_of user facts = last_of (name_put user) facts
+
+-- whether a fact disables or enables this user
+abbrev pub disabled_by : UserId → Fact → Option Bool
+disabled_by user (facts.Disabled of) = if of.0 == user.0 then Some true else None
+disabled_by user (facts.Enabled of) = if of.0 == user.0 then Some false else None
+disabled_by user fact = None
+
+-- the user is disabled: the last fact that disables or enables it disables it
+unfoldable pub is_disabled : UserId → List Fact → Bool
+is_disabled user facts = unwrap_or (last_of (disabled_by user) facts) false

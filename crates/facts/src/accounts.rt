@@ -1,6 +1,6 @@
 ghost use Rattle.std.specs.Prelude.{◌≡◌};
 ghost use Rattle.std.specs.Option.{option_copied};
-ghost use Rattle.facts.specs.Accounts.{account_named, name_of};
+ghost use Rattle.facts.specs.Accounts.{account_named, name_of, is_disabled};
 
 use crate::fact::Fact;
 use crate::facts::Facts;
@@ -72,4 +72,34 @@ pub fn name_of<'a, L: Ledger>(
     ensures value { option_copied result ≡ name_of user facts.now }
 {
     last_held(facts, &NamePut { user }, steps)
+}
+
+/// Picks whether a user is disabled or enabled.
+#[derive(Clone, Copy, Debug)]
+struct DisabledBy {
+    user: UserId,
+}
+
+impl Pick for DisabledBy {
+    ghost use Rattle.facts.specs.Accounts.{disabled_by};
+
+    type Out = bool;
+
+    ghost pick = { λ p. disabled_by p.user };
+
+    fn of(&self, fact: &Fact) -> Option<bool> {
+        match fact {
+            Fact::Disabled { user } if user.0 == self.user.0 => Some(true),
+            Fact::Enabled { user } if user.0 == self.user.0 => Some(false),
+            _ => None,
+        }
+    }
+}
+
+/// Whether a user is disabled: the last fact that disables or enables it disables it.
+#[tactic(auto, unfolding(crate::specs::Accounts::is_disabled))]
+pub fn is_disabled<L: Ledger>(facts: &Facts<'_>, user: UserId, steps: &mut Steps<L>) -> bool
+    ensures value { result ≡ is_disabled user facts.now }
+{
+    last_by(facts, &DisabledBy { user }, steps).unwrap_or(false)
 }

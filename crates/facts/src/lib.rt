@@ -41,7 +41,7 @@ mod tests;
 mod text;
 mod write;
 
-pub use accounts::{account_named, name_of};
+pub use accounts::{account_named, is_disabled, name_of};
 pub use action::Action;
 pub use admin::{AdminVerb, Life, OtpSecret, TokenAction};
 pub use ask::{Access, Ask, Form};
