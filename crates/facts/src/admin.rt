@@ -36,6 +36,7 @@ impl OtpSecret {
         }
     }
 
+    /// The key, 10 to 64 bytes.
     pub fn key(&self) -> &[u8]
         ensures key { result.now ≡ self.now }
     {
@@ -82,6 +83,7 @@ impl Life {
         }
     }
 
+    /// The life in seconds, 1 to 31,536,000.
     pub fn seconds(&self) -> u64
         ensures seconds { result ≡ self.now }
     {
@@ -92,7 +94,9 @@ impl Life {
 /// What a token can be for.
 #[derive(Clone, Copy, Debug, PartialEq, Eq)]
 pub enum TokenAction {
+    /// Following it does `Action::VerifyEmail`.
     VerifyEmail,
+    /// Following it sets a new password, and does `Action::UpdatePassword`.
     UpdatePassword,
 }
 
@@ -103,6 +107,8 @@ pub enum AdminVerb {
     RealmPut {
         realm: Option<Realm>,
     },
+    /// Adds an account, with the actions that its first login asks. The password is in bytes, and
+    /// empty once it is hashed.
     UserAdd {
         name: Name,
         password: Option<Sequence<u8>>,
@@ -110,41 +116,53 @@ pub enum AdminVerb {
         roles: Sequence<Name>,
         actions: Sequence<Action>,
     },
+    /// Puts these roles in the place of all that the user had.
     Roles {
         name: Name,
         roles: Sequence<Name>,
     },
+    /// Sets a new password, in bytes, empty once it is hashed. What rests on the one before counts
+    /// in no tab any more.
     SetPassword {
         name: Name,
         password: Sequence<u8>,
     },
+    /// Sets the secret of the user's one-time codes (RFC 6238).
     OtpSet {
         name: Name,
         secret: OtpSecret,
     },
+    /// Takes the secret of the user's one-time codes away.
     OtpRemove {
         name: Name,
     },
+    /// Requires an action before the user's next login completes.
     Require {
         name: Name,
         action: Action,
     },
+    /// Enables the account, and forgets its failures.
     Enable {
         name: Name,
     },
+    /// Disables the account until it is enabled.
     Disable {
         name: Name,
     },
+    /// Forgets the failures of an account that isn't disabled.
     Unlock {
         name: Name,
     },
+    /// Makes a token for the user, which can be spent once and while it lives.
     Token {
         name: Name,
         action: TokenAction,
         life: Life,
     },
+    /// Ends a session.
     Revoke {
         session: SessionId,
     },
+    /// Ends each session that isn't live any more.
     Sweep,
 }

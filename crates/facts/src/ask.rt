@@ -4,32 +4,40 @@ use login_base::{Code, Name, RootKey, Sequence, TabKey, TokenKey};
 /// What a post carries.
 #[derive(Debug, Drop)]
 pub enum Form {
+    /// A name, for an execution of the kind username.
     Username {
         execution: Name,
         name: Name,
     },
+    /// A password in bytes, of the user whose login the tab is.
     Password {
         execution: Name,
         password: Sequence<u8>,
     },
+    /// A name and a password in bytes, for an execution of the kind form.
     NamePassword {
         execution: Name,
         name: Name,
         password: Sequence<u8>,
     },
-    /// A one-time or recovery code.
+    /// A one-time code (RFC 6238, section 4, over RFC 4226, section 5.3) or a recovery code.
     Value {
         execution: Name,
         value: Sequence<u8>,
     },
+    /// Accepts the terms.
     Terms,
+    /// Sets the new password that is required, in bytes.
     UpdatePassword {
         password: Sequence<u8>,
     },
+    /// Sets the secret that the page offers, by a code of it (RFC 6238, section 4).
     ConfigureOtp {
         value: Sequence<u8>,
     },
+    /// Takes the recovery codes that the page offers.
     RecoveryCodes,
+    /// Does nothing: that action is done by a token alone.
     VerifyEmail,
 }
 
@@ -38,7 +46,7 @@ pub enum Form {
 pub enum Access {
     /// By a script or the command line.
     Local,
-    /// By HTTP, with a key of this SHA-256 digest.
+    /// By HTTP, with a key of this SHA-256 digest (FIPS 180-4, section 6.2).
     Key([u8; 32]),
 }
 
@@ -49,7 +57,8 @@ pub enum Ask {
     Bad {
         at: Name,
     },
-    /// Opens a tab.
+    /// Opens a tab of a client, in this root or a new one, for at least the level of the name `acr`
+    /// (OpenID Connect Core 1.0, `acr_values`).
     NewTab {
         root: Option<RootKey>,
         client: Name,
@@ -60,7 +69,7 @@ pub enum Ask {
         root: Option<RootKey>,
         tab: TabKey,
     },
-    /// Posts a form.
+    /// Posts a form, with the code of the page that it stood on.
     Post {
         root: Option<RootKey>,
         tab: TabKey,
@@ -71,14 +80,16 @@ pub enum Ask {
     Verify {
         key: TokenKey,
     },
-    /// Follows a token of `update_password`.
+    /// Follows a token of `update_password`, with the new password in bytes.
     Reset {
         key: TokenKey,
         password: Sequence<u8>,
     },
+    /// Ends the root's live session.
     Logout {
         root: Option<RootKey>,
     },
+    /// What an administrator asks.
     Admin {
         access: Access,
         verb: AdminVerb,

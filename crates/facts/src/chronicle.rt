@@ -70,6 +70,7 @@ impl Chronicle {
         }
     }
 
+    /// The number of facts in the list, without those that wait.
     pub fn len(&self) -> usize
         ensures value { result ≡ length self.now.list }
     {

@@ -10,6 +10,7 @@ pub struct Entry {
     pub caller: u32,
     /// The moment in milliseconds, below 2^53.
     pub moment: u64,
+    /// The ten random words of the ask.
     pub words: Words,
     pub solved: Solved,
     pub reply: Reply,

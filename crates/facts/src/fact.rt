@@ -47,12 +47,15 @@ pub enum Fact {
         kind: Action,
         expiry: u64,
     },
+    /// The token was followed, and can't be again.
     SpentToken {
         key: TokenKey,
     },
+    /// The account isn't disabled any more.
     Enabled {
         user: UserId,
     },
+    /// The account is disabled until it is enabled: its logins are refused.
     Disabled {
         user: UserId,
     },
@@ -61,7 +64,7 @@ pub enum Fact {
         user: UserId,
         moment: u64,
     },
-    /// A time step's code was used, of the secret with this serial.
+    /// The code of a time step of 30 s (RFC 6238) was used, of the secret with this serial.
     SpentStep {
         credential: u64,
         step: u64,
@@ -91,6 +94,7 @@ pub enum Fact {
         level: u32,
         moment: u64,
     },
+    /// The session is over. It doesn't give its root an earlier one back.
     SessionEnd {
         session: SessionId,
     },

@@ -8,7 +8,7 @@ use std::marker::Model;
 const MOST_SALT: usize = 64;
 
 /// The most iterations of a password's hash.
-const MOST_ITERATIONS: u32 = 2_000_000;
+pub(crate) const MOST_ITERATIONS: u32 = 2_000_000;
 
 /// A password as it is kept: PBKDF2 with HMAC-SHA-256 (RFC 8018, section 5.2) of a salt of 1 to 64
 /// bytes, after 1 to 2,000,000 iterations, 32 bytes long.
@@ -70,6 +70,7 @@ impl PasswordHash {
         })
     }
 
+    /// The salt, 1 to 64 bytes.
     pub fn salt(&self) -> &[u8]
         ensures salt { result.now ≡ self.now.salt }
     {
@@ -84,6 +85,7 @@ impl PasswordHash {
         self.iterations
     }
 
+    /// The derived key (RFC 8018, section 5.2), 32 bytes.
     pub fn digest(&self) -> &[u8; 32]
         ensures digest { result.now ≡ self.now.digest }
     {

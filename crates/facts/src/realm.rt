@@ -49,6 +49,7 @@ impl Realm {
         }))
     }
 
+    /// The parts, which keep the rules of a realm.
     pub fn parts(&self) -> &RealmParts
         ensures parts { result.now ≡ self.now }
         ensures sound { IsTrue (is_realm self.now) }

@@ -45,11 +45,13 @@ pub struct Client {
 pub struct RealmUser {
     pub name: Name,
     pub roles: Sequence<Name>,
+    /// Where not, the account is disabled when it is added.
     pub enabled: bool,
     pub password: Option<PasswordHash>,
     pub otp: Option<OtpSecret>,
     /// SHA-256 of each numbered recovery code, at most 16; empty where the user has none.
     pub recovery: Sequence<[u8; 32]>,
+    /// What the user's first login asks.
     pub actions: Sequence<Action>,
 }
 
@@ -57,7 +59,7 @@ pub struct RealmUser {
 #[derive(Drop)]
 pub struct RealmParts {
     pub name: Name,
-    /// SHA-256 of the administrators' key.
+    /// SHA-256 (FIPS 180-4, section 6.2) of the administrators' key.
     pub admin_key: [u8; 32],
     pub flow: Tree,
     pub session: SessionLimits,

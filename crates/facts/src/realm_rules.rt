@@ -3,6 +3,7 @@ ghost use Rattle.std.specs.List.{list_any, list_all};
 ghost use Rattle.std.specs.Str.{bytes_eq};
 ghost use Rattle.facts.specs.Realm.{is_within, are_limits, is_otp_rule, is_policy, are_numbers, are_apart, is_before, are_ascending, is_bound, are_levels, are_clients, are_users, is_realm};
 
+use crate::password_hash::MOST_ITERATIONS;
 use crate::realm_parts::{AcrLevel, Client, OtpRule, RealmParts, RealmUser, SessionLimits};
 use flow_tree::Tree;
 use lockout::Policy;
@@ -71,7 +72,7 @@ fn are_numbers(parts: &RealmParts) -> bool
     ensures { result ≡ are_numbers parts.now }
 {
     are_limits(parts.session)
-        && is_within(1, 2_000_000, u64::from(parts.iterations))
+        && is_within(1, u64::from(MOST_ITERATIONS), u64::from(parts.iterations))
         && is_otp_rule(parts.otp)
         && is_within(1, 16, u64::from(parts.recovery_count))
         && is_policy(&parts.lockout)

@@ -23,10 +23,12 @@ pub struct Need {
 /// The same page again, with a new code.
 #[derive(Debug, Drop)]
 pub enum Next {
+    /// The page of the executions that are asked.
     Form {
         code: Code,
         asked: Sequence<Need>,
     },
+    /// The page of an action, with the texts that it shows.
     Action {
         code: Code,
         kind: Action,
@@ -37,89 +39,126 @@ pub enum Next {
 /// What a reply says: the refusals in their order, then the other replies, then the faults.
 #[derive(Debug, Drop)]
 pub enum What {
+    /// The ask is malformed, first at this place.
     BadForm {
         at: Name,
     },
+    /// An administrator's ask breaks a rule of its verb, this one first.
     AdminRefused {
         rule: Rule,
     },
+    /// The realm has no such client.
     UnknownClient,
+    /// The realm has no level of the asked name.
     LevelUnknown,
+    /// A new root is needed, and `count` are known, the most that may be.
     TooManyRoots {
         count: u32,
     },
+    /// `count` tabs are known in the root, or in all roots, the most that may be.
     TooManyTabs {
         count: u32,
     },
+    /// No root is given, or it has no such tab.
     UnknownTab,
+    /// The tab's life is over.
     TabExpired,
+    /// The code isn't `current`, which the tab showed last; none where it has shown no page.
     Stale {
         current: Option<Code>,
     },
+    /// The tab's named user isn't the live session's, or the post names an existing user who isn't.
     OtherUser {
         tab: Who,
         session: Who,
     },
+    /// The tab has completed.
     Finished,
+    /// The post's execution isn't asked or takes another form, or its action isn't the asked one.
     NotAsked,
+    /// The account is locked while the moment is before `until`, in milliseconds.
     Locked {
         until: u64,
     },
+    /// The account is disabled.
     Disabled,
+    /// The password was checked against the one with the serial `had`, and the user's is now
+    /// another; 0 where there is none.
     CredentialMoved {
         had: u64,
         now: u64,
     },
+    /// No account has the name, or it has no password, or the password doesn't fit.
     BadCredentials {
         next: Next,
     },
+    /// The one-time code is that of no time step of the window (RFC 6238, section 5.2), or the
+    /// recovery code isn't the next one.
     BadCode {
         next: Next,
     },
+    /// The code fits spent ones alone; `step` is the least, a time step of 30 s (RFC 6238) or a
+    /// recovery code's number.
     CodeSpent {
         step: u64,
         next: Next,
     },
+    /// There is no token of this key and kind.
     TokenUnknown,
+    /// The token was followed before.
     TokenSpent,
+    /// The moment is `expiry` or later, in milliseconds.
     TokenExpired {
         expiry: u64,
     },
+    /// Nothing is asked, and the flow needs this deny, the first one.
     Denied {
         execution: Name,
     },
+    /// Nothing is asked, and a known user hasn't set up this need, the first one.
     NotConfigured {
         execution: Name,
     },
+    /// Nothing is asked for another reason, or the flow holds for nobody.
     DeadEnd,
+    /// The flow holds for a known user, but doesn't grant the level that the tab asks.
     LevelMissed {
         level: u32,
     },
+    /// The login is complete, in this session, with the level that the tab asks.
     Done {
         session: SessionId,
         user: Who,
         level: u32,
     },
+    /// The page of an action that is asked.
     Action {
         code: Code,
         kind: Action,
         /// The texts that the page shows: an offered secret, or the offered codes in order.
         shown: Sequence<Sequence<u8>>,
     },
+    /// The page of the executions that are asked, in order.
     Form {
         code: Code,
         asked: Sequence<Need>,
     },
+    /// A token was followed.
     ActionDone {
         user: Who,
         kind: Action,
     },
+    /// The root's live session is ended, where it had one.
     LoggedOut,
+    /// What an administrator is told.
     Told {
         text: Sequence<u8>,
     },
+    /// The store failed: nothing was added.
     StoreFault,
+    /// No random words could be drawn: nothing was asked.
     DiceFault,
+    /// Want of memory: nothing was added.
     Memory,
 }
 

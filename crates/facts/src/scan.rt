@@ -16,6 +16,7 @@ pub trait Pick {
     /// What it picks of a fact.
     ghost pick: { Self → Fact → Option Self.Out };
 
+    /// Picks it, where there is something.
     fn of(&self, fact: &Fact) -> Option<Self::Out>
         ensures value { result ≡ pick self.now fact.now };
 }
@@ -48,6 +49,7 @@ pub trait Hold {
     /// What it finds in a fact.
     ghost held: { Self → Fact → Option Self.Held };
 
+    /// Lends it, where the fact holds it.
     fn of<'a>(&self, fact: &'a Fact) -> Option<&'a Self::Held>
         ensures value { option_copied result ≡ held self.now fact.now };
 }

@@ -4,13 +4,11 @@ ghost use Rattle.facts.specs.Passwords.{password_use, password_text, is_iteratio
 use crate::admin::AdminVerb;
 use crate::ask::{Ask, Form};
 use crate::finding::{Finding, PasswordUse};
+use crate::password_hash::MOST_ITERATIONS;
 use login_base::Sequence;
 use std::alloc::Global;
 use std::marker::Model;
 use std::mem;
-
-/// The most iterations of a password's hash.
-const MOST_ITERATIONS: u32 = 2_000_000;
 
 /// An ask with its password gone, and what the check of that password found.
 #[derive(Debug, Drop)]
@@ -134,12 +132,14 @@ impl Solved {
         }
     }
 
+    /// The ask, its password empty.
     pub fn ask(&self) -> &Ask
         ensures ask { result.now ≡ self.now.ask }
     {
         &self.ask
     }
 
+    /// What the check of its password found.
     pub fn finding(&self) -> &Finding
         ensures finding { result.now ≡ self.now.finding }
         ensures fits { IsTrue (is_finding_of (password_use self.now.ask) result.now) }

@@ -29,7 +29,7 @@ pub struct RootSession {
 }
 
 impl RootSession {
-    /// Whether it is in use at this moment.
+    /// Whether it is in use at the moment `now`, in milliseconds.
     pub fn is_live(&self, now: u64) -> bool
         ensures value { result ≡ is_live now self.now }
     {
@@ -54,7 +54,7 @@ pub struct TabState {
 }
 
 impl TabState {
-    /// The session that the root has at this moment.
+    /// The session that is live in the root at the moment `now`, in milliseconds.
     pub fn live_session(&self, now: u64) -> Option<RootSession>
         ensures value { result ≡ live_session now self.now }
     {
@@ -64,8 +64,8 @@ impl TabState {
         }
     }
 
-    /// Whose login it is at this moment: that of the user of the root's live session, else of the
-    /// user that was named last.
+    /// Whose login it is at the moment `now`, in milliseconds: that of the user of the root's live
+    /// session, else of the user that was named last.
     pub fn who(&self, now: u64) -> Option<UserId>
         ensures value { result ≡ who_of now self.now }
     {

@@ -158,6 +158,11 @@ fn later_refusals(alloc: Global) -> Result<Vec<(What, &'static str)>, Memory> {
         What::LevelMissed { level: 1 },
         "refused 23 LevelMissed level=1",
     ))?;
+    Ok(table)
+}
+
+fn other_answers(alloc: Global) -> Result<Vec<(What, &'static str)>, Memory> {
+    let mut table = Vec::new(alloc);
     table.push((What::LoggedOut, "logged-out"))?;
     table.push((
         What::Told {
@@ -177,6 +182,9 @@ fn each_reply_has_its_words(rt: HostRuntime) -> Result<(), Fail> {
         assert_eq!(rt; words(rt.alloc(), what)?.as_slice(), line.as_bytes());
     }
     for (what, line) in later_refusals(rt.alloc())? {
+        assert_eq!(rt; words(rt.alloc(), what)?.as_slice(), line.as_bytes());
+    }
+    for (what, line) in other_answers(rt.alloc())? {
         assert_eq!(rt; words(rt.alloc(), what)?.as_slice(), line.as_bytes());
     }
     Ok(())
@@ -215,6 +223,12 @@ fn pages_are_written_with_what_they_ask(rt: HostRuntime) -> Result<(), Fail> {
             FORM
         )?
     );
+    Ok(())
+}
+
+#[test]
+fn actions_and_completions_are_written_with_what_they_tell(rt: HostRuntime) -> Result<(), Fail> {
+    let alloc = rt.alloc();
     let code = Code(id(7));
     let shown = codes(alloc)?;
     let kind = Action::RecoveryCodes;
@@ -285,6 +299,35 @@ fn facts(alloc: Global, hash: PasswordHash) -> Result<Sequence<Fact>, Memory> {
     Ok(facts)
 }
 
+/// What a chronicle says of its tab, of one that its root hasn't, and of one that is newer.
+fn says_of_tabs<L: Ledger, R: Abort>(rt: &R, chronicle: &Chronicle, steps: &mut Steps<L>) {
+    let facts = Facts::of(chronicle);
+    let (root, tab) = (RootKey(id(3)), TabKey(id(4)));
+    let state = tab_state(&facts, root, tab, steps);
+    let opening = Opening {
+        version: 1,
+        level: 0,
+    };
+    assert_eq!(rt; state.opening, Some(opening));
+    assert_eq!(rt; state.code, Some(Code(id(5))));
+    assert_eq!(rt; state.who(9), None);
+    assert!(rt; !state.completed);
+    let other = tab_state(&facts, root, TabKey(id(9)), steps);
+    assert_eq!(rt; other.opening, None);
+    let (root, tab) = (RootKey(id(6)), TabKey(id(7)));
+    let opened = [Fact::Opened {
+        root,
+        tab,
+        version: 1,
+        level: 2,
+        life: 60_000,
+        moment: 6,
+    }];
+    let newer = tab_state(&Facts::with(chronicle, &opened), root, tab, steps);
+    assert_eq!(rt; newer.opening.map_or(0, |opening| opening.level), 2);
+    assert_eq!(rt; newer.code, None);
+}
+
 /// What a chronicle says of the tab and the user.
 fn says<L: Ledger, R: Abort>(
     rt: &R,
@@ -298,7 +341,6 @@ fn says<L: Ledger, R: Abort>(
 {
     let mut steps = Steps::<L>::new(blank);
     let facts = Facts::of(chronicle);
-    let (root, tab) = (RootKey(id(3)), TabKey(id(4)));
     assert_eq!(rt; last_used_moment(&facts, &mut steps), 4);
     assert_eq!(rt; last_tab_serial(&facts), 5);
     assert_eq!(rt; last_stored_serial(&facts), 5);
@@ -310,29 +352,7 @@ fn says<L: Ledger, R: Abort>(
     assert_eq!(rt; account_named(&facts, &bob, &mut steps), None);
     let kept = password_of(&facts, UserId(4), &mut steps);
     assert_eq!(rt; kept.map_or(0, |kept| kept.serial), 5);
-    let state = tab_state(&facts, root, tab, &mut steps);
-    let opening = Opening {
-        version: 1,
-        level: 0,
-    };
-    assert_eq!(rt; state.opening, Some(opening));
-    assert_eq!(rt; state.code, Some(Code(id(5))));
-    assert_eq!(rt; state.who(9), None);
-    assert!(rt; !state.completed);
-    let other = tab_state(&facts, root, TabKey(id(9)), &mut steps);
-    assert_eq!(rt; other.opening, None);
-    let (root, tab) = (RootKey(id(6)), TabKey(id(7)));
-    let opened = [Fact::Opened {
-        root,
-        tab,
-        version: 1,
-        level: 2,
-        life: 60_000,
-        moment: 6,
-    }];
-    let newer = tab_state(&Facts::with(chronicle, &opened), root, tab, &mut steps);
-    assert_eq!(rt; newer.opening.map_or(0, |opening| opening.level), 2);
-    assert_eq!(rt; newer.code, None);
+    says_of_tabs(rt, chronicle, &mut steps);
     Ok(())
 }
 
