@@ -25,7 +25,7 @@ use Rattle.login_hall.specs.declared.known_tab.KnownTab.{KnownTab}
 use Rattle.login_hall.specs.declared.progress.Progress.{Progress}
 use Rattle.login_hall.specs.declared.progress.Progress.TheVariants as progresses
 use Rattle.login_hall.specs.declared.refusal.Refusal.{Refusal}
-use Rattle.login_hall.specs.Due.{due_admin, due_ask}
+use Rattle.login_hall.specs.Due.{has_key, due_verb, verb_with, due_admin, due_ask}
 use Rattle.login_hall.specs.Forms.{evidence_of}
 use Rattle.login_hall.specs.Laws.{marked_first}
 use Rattle.login_hall.specs.NewTab.{due_new_tab, new_level, opened_at, opening_fact}
@@ -64,7 +64,7 @@ where_unmarked list setting known (Err refusal) = refl
 
 visited_unmarked : (list : List Fact) (setting : Setting) (known : KnownTab) → IsUnmarked (visited list setting known).added
 unfolding visited
-visited_unmarked list setting known = where_unmarked list setting known (going setting.moment known)
+visited_unmarked list setting known = where_unmarked list setting known (going list setting.moment known)
 
 -- ---- opens and pages
 
@@ -108,19 +108,23 @@ user_unmarked list name roles (findings.Derived salt count digest) (Ok user) = r
 user_unmarked list name roles finding (Ok user) = refl
 user_unmarked list name roles finding (Err refusal) = refl
 
-admin_unmarked : (list : List Fact) (verb : AdminVerb) (finding : Finding) → IsUnmarked (due_admin list verb finding).added
+verb_unmarked : (list : List Fact) (verb : AdminVerb) (finding : Finding) → IsUnmarked (due_verb list verb finding).added
 unfolding due_user_add
-admin_unmarked list (verbs.UserAdd name password otp roles actions) finding = user_unmarked list name roles finding (new_user list name otp actions)
-admin_unmarked list verb finding = refl
+verb_unmarked list (verbs.UserAdd name password otp roles actions) finding = user_unmarked list name roles finding (new_user list name otp actions)
+verb_unmarked list verb finding = refl
+
+admin_unmarked : (list : List Fact) (verb : AdminVerb) (finding : Finding) (key : Result (Unit {0}) Refusal) → IsUnmarked (settled list (verb_with list verb finding) key).added
+admin_unmarked list verb finding (Ok key) = verb_unmarked list verb finding
+admin_unmarked list verb finding (Err refusal) = refl
 
 -- ---- any ask
 
 pub due_unmarked : (list : List Fact) (setting : Setting) (ask : Ask) (finding : Finding) → list_any is_mark (due_ask list setting ask finding).added ≡ false
-unfolding due_new_tab due_page due_post
+unfolding due_new_tab due_page due_post due_admin
 due_unmarked list setting (asks.NewTab root client acr) finding = new_tab_unmarked list setting (new_level setting.realm client root acr)
 due_unmarked list setting (asks.Page root tab) finding = page_unmarked list setting (known_tab list root tab)
 due_unmarked list setting (asks.Post root tab code form) finding = post_unmarked list setting code form finding (known_tab list root tab)
-due_unmarked list setting (asks.Admin access verb) finding = admin_unmarked list verb finding
+due_unmarked list setting (asks.Admin access verb) finding = admin_unmarked list verb finding (has_key setting.realm access)
 due_unmarked list setting ask finding = refl
 
 -- facts with no mark behind the first one stay such facts

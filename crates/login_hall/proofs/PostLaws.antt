@@ -39,16 +39,16 @@ use Rattle.login_hall.specs.declared.progress.Progress.TheVariants as progresses
 use Rattle.login_hall.specs.declared.refusal.Refusal.{Refusal}
 use Rattle.login_hall.specs.declared.refusal.Refusal.TheVariants as refusals
 use Rattle.login_hall.specs.declared.refusal.Refusal.TheVariants.{Stale, Finished, NotAsked}
-use Rattle.login_hall.specs.Forms.{named_by, target_of, evidence_of}
+use Rattle.login_hall.specs.Forms.{named_by, target_of, concerned, evidence_of}
 use Rattle.login_hall.specs.Ids.{next_session}
-use Rattle.login_hall.specs.Laws.{IsAsked}
+use Rattle.login_hall.specs.Laws.{IsAsked, is_done, is_evidence, refused_as_finished}
 use Rattle.login_hall.specs.PasswordFor.{password_for}
-use Rattle.login_hall.specs.Post.{behind, is_code, current_code, not_other, is_asked, unmoved, password_check, name_check, check_of, posted, accepted, wrong_credentials, checked, post_where, post_in, due_post, is_done, is_evidence, refused_as_finished}
+use Rattle.login_hall.specs.Post.{behind, is_code, current_code, not_other, is_asked, unmoved, password_check, name_check, check_of, posted, accepted, wrong_credentials, checked, post_where, post_in, due_post}
 use Rattle.login_hall.specs.Progress.{truths_of, asked_of, has_password, blocked, first_denied, first_not_configured, denied_or, not_configured, asked_or, ready_for, lacking, progress_in, progress_under, progress_of, asked_in}
 use Rattle.login_hall.specs.Refusals.{◌>>=◌, what_of, settled, settled_in}
 use Rattle.login_hall.specs.Setting.{Setting}
 use Rattle.login_hall.specs.Shown.{session_for, session_fact, done, outcome_of, shown}
-use Rattle.login_hall.specs.Visit.{tab_with, tab_in, known_tab, not_split, same_user, unfinished, user_of}
+use Rattle.login_hall.specs.Visit.{tab_with, tab_in, known_tab, enabled, not_split, same_user, unfinished, user_of}
 
 -- ---- what stands where nothing refused
 
@@ -81,13 +81,14 @@ gates_passed list moment known asked code form finding check h =
     let fourth = first_passed (unfinished known) _ check third.1 in
     let fifth = first_passed (is_asked asked form) _ check fourth.1 in
     let target = target_of (named_by list form) (who_of moment known.state) form in
-    let sixth = first_passed (unmoved (password_for list target) finding) _ check fifth.1 in
+    let sixth = first_passed (enabled list (concerned (named_by list form) (who_of moment known.state))) _ check fifth.1 in
+    let seventh = first_passed (unmoved (password_for list target) finding) _ check sixth.1 in
     record {
       code_shown = test_passed (is_code code known.state.code) (Stale known.state.code) first.0;
       whole = second.0;
       same = third.0;
       fitting = fifth.0;
-      check_is = ok_is _ check sixth.1;
+      check_is = ok_is _ check seventh.1;
     }
 
 -- ---- evidence
@@ -340,6 +341,7 @@ progress_who list moment known user h = under_who list known.tab (who_of moment 
 
 not_done : (list : List Fact) (refusal : Refusal) → is_done (what_of list refusal) ≡ false
 not_done list refusals.NotBuilt = refl
+not_done list refusals.WrongKey = refl
 not_done list refusals.UserTaken = refl
 not_done list refusals.UnknownClient = refl
 not_done list refusals.UnknownTab = refl
@@ -347,6 +349,7 @@ not_done list (refusals.Stale current) = refl
 not_done list (refusals.OtherUser of session) = refl
 not_done list refusals.Finished = refl
 not_done list refusals.NotAsked = refl
+not_done list refusals.Disabled = refl
 not_done list (refusals.CredentialMoved had now) = refl
 
 -- ---- a repeat

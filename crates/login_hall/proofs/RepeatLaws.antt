@@ -45,9 +45,9 @@ use Rattle.login_hall.specs.declared.refusal.Refusal.{Refusal}
 use Rattle.login_hall.specs.declared.refusal.Refusal.TheVariants.{Stale, OtherUser, Finished}
 use Rattle.login_hall.specs.Forms.{named_by, target_of, is_of, evidence_of}
 use Rattle.login_hall.specs.Ids.{next_code}
-use Rattle.login_hall.specs.Laws.{marked_first, due_again, is_repeat_refusal, IsRepeatRefused}
+use Rattle.login_hall.specs.Laws.{is_evidence, refused_as_finished, marked_first, due_again, is_repeat_refusal, IsRepeatRefused}
 use Rattle.login_hall.specs.PasswordFor.{password_for}
-use Rattle.login_hall.specs.Post.{behind, is_code, current_code, has_need, is_asked, check_of, posted, accepted, wrong_credentials, checked, post_where, post_in, due_post, is_evidence, refused_as_finished}
+use Rattle.login_hall.specs.Post.{behind, is_code, current_code, has_need, is_asked, check_of, posted, accepted, wrong_credentials, checked, post_where, post_in, due_post}
 use Rattle.login_hall.specs.Progress.{has_password, asked_as, asked_of, blocked, first_denied, denied_or, asked_or, ready_for, lacking, truths_of, progress_in, progress_under, progress_of, asked_in}
 use Rattle.login_hall.specs.Refusals.{◌>>=◌, what_of, settled, settled_in}
 use Rattle.login_hall.specs.Setting.{Setting}
@@ -395,14 +395,14 @@ module _ (old : List Fact) (setting : Setting) (code : Code) (form : Form) (find
   again_of_opening root tab None marked is evidence = absurd cc
 
   again : (root : RootKey) (tab : TabKey) → IsTrue (list_any (is_evidence tab) (due_post old setting (Some root) tab code form finding).added) → IsTrue (marked_first old)
-      → IsRefused tab (due_again old setting root tab code form finding later later_finding)
+      → IsRefused tab (due_again old setting (Some root) tab code form finding later later_finding)
   unfolding due_post known_tab tab_in
   again root tab evidence marked = again_of_opening root tab (tab_state root tab old).opening marked refl evidence
 
   pub again_refused : (root : RootKey) (tab : TabKey) → IsTrue (list_any (is_evidence tab) (due_post old setting (Some root) tab code form finding).added) → IsTrue (marked_first old)
-      → IsRepeatRefused tab (due_again old setting root tab code form finding later later_finding).reply
+      → IsRepeatRefused tab (due_again old setting (Some root) tab code form finding later later_finding).reply
   again_refused root tab evidence marked = (again root tab evidence marked).reply
 
   pub again_adds_nothing : (root : RootKey) (tab : TabKey) → IsTrue (list_any (is_evidence tab) (due_post old setting (Some root) tab code form finding).added) → IsTrue (marked_first old)
-      → (due_again old setting root tab code form finding later later_finding).added ≡ []
+      → (due_again old setting (Some root) tab code form finding later later_finding).added ≡ []
   again_adds_nothing root tab evidence marked = (again root tab evidence marked).added

@@ -29,7 +29,7 @@ use Rattle.login_hall.specs.declared.known_tab.KnownTab.{KnownTab}
 use Rattle.login_hall.specs.declared.progress.Progress.{Progress}
 use Rattle.login_hall.specs.declared.progress.Progress.TheVariants as progresses
 use Rattle.login_hall.specs.declared.refusal.Refusal.{Refusal}
-use Rattle.login_hall.specs.Due.{due_admin, due_ask}
+use Rattle.login_hall.specs.Due.{has_key, due_verb, verb_with, due_admin, due_ask}
 use Rattle.login_hall.specs.Forms.{evidence_of}
 use Rattle.login_hall.specs.Legal.{Raises}
 use Rattle.login_hall.specs.NewTab.{due_new_tab, new_level, opened_at, opening_fact}
@@ -96,7 +96,7 @@ where_lifts old setting known (Err refusal) = nothing 1 old
 
 visited_lifts : (old : List Fact) (setting : Setting) (known : KnownTab) → Lifts 1 old (visited old setting known).added
 unfolding visited
-visited_lifts old setting known = where_lifts old setting known (going setting.moment known)
+visited_lifts old setting known = where_lifts old setting known (going old setting.moment known)
 
 -- ---- opens and pages
 
@@ -197,19 +197,23 @@ unfolding new_user
 new_user_lifts old name otp roles actions finding (Ok user) h = user_lifts old name roles finding user (next_user (without_setup otp actions) (name_free old name) (last_stored_serial old + 1) user h)
 new_user_lifts old name otp roles actions finding (Err refusal) h = nothing 2 old
 
-admin_lifts : (old : List Fact) (verb : AdminVerb) (finding : Finding) → Lifts 2 old (due_admin old verb finding).added
+verb_lifts : (old : List Fact) (verb : AdminVerb) (finding : Finding) → Lifts 2 old (due_verb old verb finding).added
 unfolding due_user_add
-admin_lifts old (verbs.UserAdd name password otp roles actions) finding = new_user_lifts old name otp roles actions finding (new_user old name otp actions) refl
-admin_lifts old verb finding = nothing 2 old
+verb_lifts old (verbs.UserAdd name password otp roles actions) finding = new_user_lifts old name otp roles actions finding (new_user old name otp actions) refl
+verb_lifts old verb finding = nothing 2 old
+
+admin_lifts : (old : List Fact) (verb : AdminVerb) (finding : Finding) (key : Result (Unit {0}) Refusal) → Lifts 2 old (settled old (verb_with old verb finding) key).added
+admin_lifts old verb finding (Ok key) = verb_lifts old verb finding
+admin_lifts old verb finding (Err refusal) = nothing 2 old
 
 -- an ask raises each counter by a few at most
 pub raises : (old : List Fact) (setting : Setting) (ask : Ask) (finding : Finding) → Raises old (old ++ (due_ask old setting ask finding).added)
-unfolding due_new_tab due_page due_post
+unfolding due_new_tab due_page due_post due_admin
 raises old setting (asks.Bad at) finding = raised 0 old _ (omega arith) (nothing 0 old)
 raises old setting (asks.NewTab root client acr) finding = raised 3 old _ (omega arith) (new_tab_lifts old setting (new_level setting.realm client root acr))
 raises old setting (asks.Page root tab) finding = raised 1 old _ (omega arith) (page_lifts old setting (known_tab old root tab))
 raises old setting (asks.Post root tab code form) finding = raised 1 old _ (omega arith) (post_lifts old setting code form finding (known_tab old root tab))
-raises old setting (asks.Admin access verb) finding = raised 2 old _ (omega arith) (admin_lifts old verb finding)
+raises old setting (asks.Admin access verb) finding = raised 2 old _ (omega arith) (admin_lifts old verb finding (has_key setting.realm access))
 raises old setting ask finding = raised 0 old _ (omega arith) (nothing 0 old)
 
 -- ---- room for what comes after

@@ -15,7 +15,8 @@ use Rattle.facts.specs.RealmBuiltin.{builtin_realm}
 use Rattle.facts.specs.Realms.{current_realm, has_realm, is_put, last_version}
 use Rattle.facts.proofs.InForce.{has_realm_more, in_force_was_put}
 use Rattle.facts.specs.Serials.{last_stored_serial}
-use Rattle.login_hall.specs.Start.{IsStart, IsPut, is_mark, realm_facts, disabled_facts, password_facts, user_facts, new_user_facts, serial_after, users_facts, users_after, start_facts}
+use Rattle.login_hall.specs.Users.{password_facts}
+use Rattle.login_hall.specs.Start.{IsStart, IsPut, is_mark, realm_facts, disabled_facts, user_facts, new_user_facts, serial_after, users_facts, users_after, start_facts}
 
 -- ---- no mark is among them
 

@@ -11,6 +11,7 @@ use Rattle.facts.specs.declared.fact.Fact.{Fact}
 use Rattle.facts.specs.declared.fact.Fact.TheVariants as facts
 use Rattle.facts.specs.declared.reply.Need.{Need}
 use Rattle.facts.specs.Accounts.{account_named}
+use Rattle.facts.specs.Places.{or_else}
 use Rattle.login_hall.specs.declared.form.Passing.{Passing}
 
 -- the user whom it names
@@ -24,6 +25,10 @@ abbrev pub target_of : Option UserId → Option UserId → Form → Option UserI
 target_of named who (forms.NamePassword execution name password) = named
 target_of named who (forms.Password execution password) = who
 target_of named who form = None
+
+-- the user concerned: the one whom it names, else the one whose login it is
+abbrev pub concerned : Option UserId → Option UserId → Option UserId
+concerned named who = or_else named who
 
 abbrev pub is_need : Need → List ℕ → Kind → Bool
 is_need need execution kind = bytes_eq need.id execution && same_kind need.kind kind

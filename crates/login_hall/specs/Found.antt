@@ -9,7 +9,6 @@ use Rattle.login_base.specs.declared.words.Words.{Words}
 use Rattle.facts.specs.declared.ask.Ask.{Ask}
 use Rattle.facts.specs.declared.ask.Ask.TheVariants as asks
 use Rattle.facts.specs.declared.ask.Form.{Form}
-use Rattle.facts.specs.declared.ask.Form.TheVariants as forms
 use Rattle.facts.specs.declared.fact.Fact.{Fact}
 use Rattle.facts.specs.declared.finding.Finding.{Finding}
 use Rattle.facts.specs.declared.finding.Finding.TheVariants as findings
@@ -18,11 +17,11 @@ use Rattle.facts.specs.declared.finding.PasswordUse.TheVariants as uses
 use Rattle.facts.specs.declared.passwords.UserPassword.{UserPassword}
 use Rattle.facts.specs.declared.tabs.Opening.{Opening}
 use Rattle.facts.specs.declared.tabs.TabState.{TabState}
-use Rattle.facts.specs.Accounts.{account_named}
 use Rattle.facts.specs.Passwords.{password_use, password_text, emptied, is_iterations}
 use Rattle.facts.specs.Solved.{SolvedAsk}
 use Rattle.facts.specs.Tabs.{tab_state, who_of}
 use Rattle.mac_kit.specs.Pbkdf2.{pbkdf2_sha256}
+use Rattle.login_hall.specs.Forms.{named_by, target_of}
 use Rattle.login_hall.specs.PasswordFor.{password_for}
 use Rattle.login_hall.specs.Realms.{realm_now}
 use Rattle.login_hall.specs.declared.task.Task.{Task}
@@ -41,20 +40,18 @@ abbrev pub who_in : List Fact → ℕ → Option RootKey → TabKey → Option U
 who_in chronicle moment None tab = None
 who_in chronicle moment (Some root) tab = who_among moment (tab_state root tab chronicle) (tab_state root tab chronicle).opening
 
--- the account whose password a form checks in a tab: that of the name in it, else the one whose login it is
+-- the account whose password a form checks in a tab
 abbrev pub form_target : List Fact → ℕ → Option RootKey → TabKey → Form → Option UserId
-form_target chronicle moment root tab (forms.NamePassword execution name password) = account_named name chronicle
-form_target chronicle moment root tab (forms.Password execution password) = who_in chronicle moment root tab
-form_target chronicle moment root tab form = None
+form_target chronicle moment root tab form = target_of (named_by chronicle form) (who_in chronicle moment root tab) form
 
 -- the account whose password an ask checks
-unfoldable pub target_of : List Fact → ℕ → Ask → Option UserId
-target_of chronicle moment (asks.Post root tab code form) = form_target chronicle moment root tab form
-target_of chronicle moment ask = None
+unfoldable pub checked_user : List Fact → ℕ → Ask → Option UserId
+checked_user chronicle moment (asks.Post root tab code form) = form_target chronicle moment root tab form
+checked_user chronicle moment ask = None
 
 -- the password that the ask has to fit
 abbrev pub target_password : List Fact → ℕ → Ask → Option UserPassword
-target_password chronicle moment ask = password_for chronicle (target_of chronicle moment ask)
+target_password chronicle moment ask = password_for chronicle (checked_user chronicle moment ask)
 
 -- what is to be done with the password of an ask: a new one is hashed so often
 unfoldable pub task_for : PasswordUse → Option UserPassword → ℕ → Words → Option Task

@@ -1,12 +1,14 @@
 -- What the laws on posts say.
-use Rattle.std.specs.Prelude.{ℕ, ◌≡◌, Bool, true, false, not, List, [], ◌∷◌, ◌++◌, Some, Ok, IsTrue}
+use Rattle.std.specs.Prelude.{ℕ, ◌≡◌, Bool, true, false, not, List, [], ◌∷◌, ◌++◌, Option, Ok, IsTrue}
 use Rattle.std.specs.List.{list_any}
+use Rattle.login_base.specs.IdText.{same_id}
 use Rattle.login_base.specs.declared.id.Code.{Code}
 use Rattle.login_base.specs.declared.id.RootKey.{RootKey}
 use Rattle.login_base.specs.declared.id.TabKey.{TabKey}
 use Rattle.login_base.specs.declared.words.Words.{Words}
 use Rattle.facts.specs.declared.ask.Form.{Form}
 use Rattle.facts.specs.declared.fact.Fact.{Fact}
+use Rattle.facts.specs.declared.fact.Fact.TheVariants as events
 use Rattle.facts.specs.declared.finding.Finding.{Finding}
 use Rattle.facts.specs.declared.realm_parts.RealmParts.{RealmParts}
 use Rattle.facts.specs.declared.reply.Reply.{Reply}
@@ -32,6 +34,15 @@ pub record IsAsked (facts : List Fact) (moment : ℕ) (root : RootKey) (tab : Ta
   pub code_shown : is_code code known.state.code ≡ true
   pub form_asked : is_asked (asked_in (progress_of facts moment known)) form ≡ Ok tt
 
+-- the fact is evidence of this tab
+abbrev pub is_evidence : TabKey → Fact → Bool
+is_evidence tab (events.Passed of execution user kind credential moment) = same_id of.0 tab.0
+is_evidence tab fact = false
+
+-- the answer adds evidence to the tab
+abbrev pub IsAccepted : TabKey → Answer → Type 0
+IsAccepted tab answer = IsTrue (list_any (is_evidence tab) answer.added)
+
 -- ---- a post that comes again
 
 -- no mark stands behind the first fact
@@ -40,9 +51,18 @@ marked_first [] = true
 marked_first (fact ∷ facts) = not (list_any is_mark facts)
 
 -- what the same post is due as the very next ask
-abbrev pub due_again : List Fact → Setting → RootKey → TabKey → Code → Form → Finding → Setting → Finding → Answer
+abbrev pub due_again : List Fact → Setting → Option RootKey → TabKey → Code → Form → Finding → Setting → Finding → Answer
 due_again facts setting root tab code form finding later later_finding =
-    due_post (facts ++ (due_post facts setting (Some root) tab code form finding).added) later (Some root) tab code form later_finding
+    due_post (facts ++ (due_post facts setting root tab code form finding).added) later root tab code form later_finding
+
+-- the login completes
+abbrev pub is_done : What → Bool
+is_done (whats.Done session user level) = true
+is_done what = false
+
+-- a post that is refused as finished
+abbrev pub refused_as_finished : TabKey → Answer
+refused_as_finished tab = record { reply = in_tab tab whats.Finished; added = [] }
 
 -- the refusals of a repeat: the code is stale, the user another, the tab finished, or the form not asked
 abbrev pub is_repeat_refusal : What → Bool

@@ -19,4 +19,5 @@ pub mod Setting
 pub mod Shown
 pub mod Start
 pub mod UserAdd
+pub mod Users
 pub mod Visit

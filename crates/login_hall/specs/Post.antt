@@ -15,7 +15,6 @@ use Rattle.facts.specs.declared.finding.Finding.TheVariants as findings
 use Rattle.facts.specs.declared.passwords.UserPassword.{UserPassword}
 use Rattle.facts.specs.declared.reply.Need.{Need}
 use Rattle.facts.specs.declared.reply.Next.TheVariants as nexts
-use Rattle.facts.specs.declared.reply.What.{What}
 use Rattle.facts.specs.declared.reply.What.TheVariants as whats
 use Rattle.facts.specs.Tabs.{live_session, who_of, tab_state}
 use Rattle.login_hall.specs.declared.answer.Answer.{Answer}
@@ -25,7 +24,7 @@ use Rattle.login_hall.specs.declared.known_tab.KnownTab.{KnownTab}
 use Rattle.login_hall.specs.declared.outcome.Outcome.{Outcome}
 use Rattle.login_hall.specs.declared.refusal.Refusal.{Refusal}
 use Rattle.login_hall.specs.declared.refusal.Refusal.TheVariants.{Stale, NotAsked, CredentialMoved}
-use Rattle.login_hall.specs.Forms.{named_by, target_of, is_of, evidence_of}
+use Rattle.login_hall.specs.Forms.{named_by, target_of, concerned, is_of, evidence_of}
 use Rattle.login_hall.specs.Ids.{next_code}
 use Rattle.login_hall.specs.Page.{answered_in}
 use Rattle.login_hall.specs.PasswordFor.{password_for}
@@ -34,7 +33,7 @@ use Rattle.login_hall.specs.Progress.{progress_of, asked_in}
 use Rattle.login_hall.specs.Refusals.{◌>>=◌, settled, settled_in}
 use Rattle.login_hall.specs.Setting.{Setting}
 use Rattle.login_hall.specs.Shown.{rendered, shown}
-use Rattle.login_hall.specs.Visit.{known_tab, not_split, same_user, unfinished, user_of}
+use Rattle.login_hall.specs.Visit.{known_tab, enabled, not_split, same_user, unfinished, user_of}
 
 -- ---- refusals, in their order
 
@@ -96,6 +95,7 @@ posted facts moment known asked code form finding =
       same ← not_other moment known (named_by facts form)
       going ← unfinished known
       fitting ← is_asked asked form
+      allowed ← enabled facts (concerned (named_by facts form) (who_of moment known.state))
       kept ← unmoved password finding
       Ok (check_of (named_by facts form) target password form finding)
 
@@ -144,19 +144,3 @@ post_in facts setting code form finding known =
 
 unfoldable pub due_post : List Fact → Setting → Option RootKey → TabKey → Code → Form → Finding → Answer
 due_post facts setting root tab code form finding = settled facts (post_in facts setting code form finding) (known_tab facts root tab)
-
--- ---- what a post comes to
-
--- the login completes
-abbrev pub is_done : What → Bool
-is_done (whats.Done session user level) = true
-is_done what = false
-
--- the fact is evidence of this tab
-abbrev pub is_evidence : TabKey → Fact → Bool
-is_evidence tab (facts.Passed of execution user kind credential moment) = same_id of.0 tab.0
-is_evidence tab fact = false
-
--- a post that is refused as finished
-abbrev pub refused_as_finished : TabKey → Answer
-refused_as_finished tab = record { reply = in_tab tab whats.Finished; added = [] }

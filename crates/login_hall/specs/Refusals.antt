@@ -26,6 +26,7 @@ who_named facts user = record { id = user; name = unwrap_or (name_of user facts)
 -- what a refusal says
 abbrev pub what_of : List Fact → Refusal → What
 what_of facts refusals.NotBuilt = whats.BadForm (codes "verb")
+what_of facts refusals.WrongKey = whats.AdminRefused rules.WrongKey
 what_of facts refusals.UserTaken = whats.AdminRefused rules.UserTaken
 what_of facts refusals.UnknownClient = whats.UnknownClient
 what_of facts refusals.UnknownTab = whats.UnknownTab
@@ -33,6 +34,7 @@ what_of facts (refusals.Stale current) = whats.Stale current
 what_of facts (refusals.OtherUser tab session) = whats.OtherUser (who_named facts tab) (who_named facts session)
 what_of facts refusals.Finished = whats.Finished
 what_of facts refusals.NotAsked = whats.NotAsked
+what_of facts refusals.Disabled = whats.Disabled
 what_of facts (refusals.CredentialMoved had now) = whats.CredentialMoved had now
 
 -- what a refused ask is due: the refusal alone

@@ -71,4 +71,4 @@ shown_where facts setting known (Err refusal) = record { what = what_of facts re
 
 -- what it shows where it may go on
 unfoldable pub visited : List Fact → Setting → KnownTab → Outcome
-visited facts setting known = shown_where facts setting known (going setting.moment known)
+visited facts setting known = shown_where facts setting known (going facts setting.moment known)

@@ -5,14 +5,13 @@ use Rattle.facts.specs.declared.fact.Fact.{Fact}
 use Rattle.facts.specs.declared.fact.Fact.TheVariants as facts
 use Rattle.facts.specs.declared.realm_parts.RealmParts.{RealmParts}
 use Rattle.facts.specs.declared.realm_parts.RealmUser.{RealmUser}
-use Rattle.facts.specs.declared.secret.Secret.TheVariants as secrets
-use Rattle.facts.specs.declared.secret.SecretKind.TheVariants as kinds
 use Rattle.facts.specs.Accounts.{account_named}
 use Rattle.facts.specs.PasswordHash.{HashedPassword}
 use Rattle.facts.specs.RealmBuilt.{is_built}
 use Rattle.facts.specs.RealmBuiltin.{builtin_realm}
 use Rattle.facts.specs.Realms.{current_realm, last_version}
 use Rattle.facts.specs.Serials.{last_stored_serial}
+use Rattle.login_hall.specs.Users.{password_facts}
 
 -- ---- the realm
 
@@ -39,11 +38,6 @@ realm_facts last (Some realm) = facts.RealmPut (last + 1) realm ∷ []
 abbrev pub disabled_facts : UserId → Bool → List Fact
 disabled_facts user true = []
 disabled_facts user false = facts.Disabled user ∷ []
-
--- a password has the serial after the user's
-abbrev pub password_facts : UserId → Option HashedPassword → List Fact
-password_facts user None = []
-password_facts user (Some hash) = facts.SecretSet user kinds.Password (user.0 + 1) (secrets.Password hash) None ∷ []
 
 -- a user of the realm is put, closed where it isn't enabled, and given its password; codes and actions aren't built yet
 abbrev pub user_facts : UserId → RealmUser → List Fact

@@ -1,5 +1,5 @@
 -- What the adding of a user is due.
-use Rattle.std.specs.Prelude.{◌≡◌, ℕ, ◌+◌, Bool, true, false, ◌||◌, List, [], ◌∷◌, ◌++◌, Option, None, Result, Ok, Err, is_some, codes, decimal, if◌then◌else◌}
+use Rattle.std.specs.Prelude.{◌≡◌, ℕ, ◌+◌, Bool, true, false, ◌||◌, List, [], ◌∷◌, ◌++◌, Option, Some, None, Result, Ok, Err, is_some, codes, decimal, if◌then◌else◌}
 use Rattle.login_base.specs.declared.id.UserId.{UserId}
 use Rattle.facts.specs.declared.action.Action.{Action}
 use Rattle.facts.specs.declared.admin.OtpSecret.{OtpSecret}
@@ -8,9 +8,8 @@ use Rattle.facts.specs.declared.fact.Fact.TheVariants as facts
 use Rattle.facts.specs.declared.finding.Finding.{Finding}
 use Rattle.facts.specs.declared.finding.Finding.TheVariants as findings
 use Rattle.facts.specs.declared.reply.What.TheVariants as whats
-use Rattle.facts.specs.declared.secret.Secret.TheVariants as secrets
-use Rattle.facts.specs.declared.secret.SecretKind.TheVariants as kinds
 use Rattle.facts.specs.Accounts.{account_named}
+use Rattle.facts.specs.PasswordHash.{HashedPassword}
 use Rattle.facts.specs.Passwords.{is_iterations}
 use Rattle.facts.specs.Serials.{last_stored_serial}
 use Rattle.login_hall.specs.declared.answer.Answer.{Answer}
@@ -18,6 +17,7 @@ use Rattle.login_hall.specs.declared.refusal.Refusal.{Refusal}
 use Rattle.login_hall.specs.declared.refusal.Refusal.TheVariants.{NotBuilt, UserTaken}
 use Rattle.login_hall.specs.Plain.{plain}
 use Rattle.login_hall.specs.Refusals.{◌>>=◌, settled}
+use Rattle.login_hall.specs.Users.{password_facts}
 
 abbrev pub has_some : {A : Type 0} → List A → Bool
 has_some [] = false
@@ -42,14 +42,14 @@ new_user chronicle name otp actions = do
 abbrev pub user_text : List ℕ → UserId → List ℕ
 user_text name user = codes "user name=" ++ name ++ codes " id=" ++ decimal user.0
 
--- a derived password is set, with the serial after the user's
-abbrev pub first_password : UserId → Finding → List Fact
-first_password user (findings.Derived salt count digest) = facts.SecretSet user kinds.Password (user.0 + 1) (secrets.Password (record { salt = salt; iterations = count; digest = digest })) None ∷ []
-first_password user finding = []
+-- the password that was derived, as it is kept
+abbrev pub derived : Finding → Option HashedPassword
+derived (findings.Derived salt count digest) = Some (record { salt = salt; iterations = count; digest = digest })
+derived finding = None
 
 -- the account is put, and its password is set where the ask had one
 abbrev pub user_added : List ℕ → List (List ℕ) → Finding → UserId → Answer
-user_added name roles finding user = record { reply = plain (whats.Told (user_text name user)); added = facts.UserPut user name roles ∷ first_password user finding }
+user_added name roles finding user = record { reply = plain (whats.Told (user_text name user)); added = facts.UserPut user name roles ∷ password_facts user (derived finding) }
 
 unfoldable pub due_user_add : List Fact → List ℕ → Option OtpSecret → List (List ℕ) → List Action → Finding → Answer
 due_user_add chronicle name otp roles actions finding = settled chronicle (user_added name roles finding) (new_user chronicle name otp actions)

@@ -7,10 +7,11 @@ use Rattle.facts.specs.declared.fact.Fact.{Fact}
 use Rattle.facts.specs.declared.tabs.Opening.{Opening}
 use Rattle.facts.specs.declared.tabs.RootSession.{RootSession}
 use Rattle.facts.specs.declared.tabs.TabState.{TabState}
-use Rattle.facts.specs.Tabs.{tab_state, live_session}
+use Rattle.facts.specs.Accounts.{is_disabled}
+use Rattle.facts.specs.Tabs.{tab_state, live_session, who_of}
 use Rattle.login_hall.specs.declared.known_tab.KnownTab.{KnownTab}
 use Rattle.login_hall.specs.declared.refusal.Refusal.{Refusal}
-use Rattle.login_hall.specs.declared.refusal.Refusal.TheVariants.{UnknownTab, OtherUser, Finished}
+use Rattle.login_hall.specs.declared.refusal.Refusal.TheVariants.{UnknownTab, OtherUser, Finished, Disabled}
 use Rattle.login_hall.specs.Refusals.{◌>>=◌}
 
 abbrev pub tab_with : RootKey → TabKey → TabState → Option Opening → Result KnownTab Refusal
@@ -44,8 +45,14 @@ not_split moment known = same_user known.state.named (user_of (live_session mome
 abbrev pub unfinished : KnownTab → Result (Unit {0}) Refusal
 unfinished known = if known.state.completed then Err Finished else Ok tt
 
+-- the user is unknown, or isn't disabled
+unfoldable pub enabled : List Fact → Option UserId → Result (Unit {0}) Refusal
+enabled facts None = Ok tt
+enabled facts (Some user) = if is_disabled user facts then Err Disabled else Ok tt
+
 -- the tab may go on
-unfoldable pub going : ℕ → KnownTab → Result (Unit {0}) Refusal
-going moment known = do
+unfoldable pub going : List Fact → ℕ → KnownTab → Result (Unit {0}) Refusal
+going facts moment known = do
   whole ← not_split moment known
-  unfinished known
+  going ← unfinished known
+  enabled facts (who_of moment known.state)

@@ -1,7 +1,7 @@
 ghost use Rattle.std.specs.Prelude.{◌≡◌, ◌≤◌, ◌-◌, ◌^◌, true, IfOk};
 ghost use Rattle.facts.specs.Realms.{has_realm};
 ghost use Rattle.facts.specs.Serials.{last_tab_serial, last_stored_serial};
-ghost use Rattle.login_hall.specs.Due.{due, due_admin};
+ghost use Rattle.login_hall.specs.Due.{due, has_key, due_verb, due_admin};
 ghost use Rattle.login_hall.specs.Realms.{realm_now};
 ghost use Rattle.login_hall.specs.UserAdd.{IsKeepable};
 
@@ -13,7 +13,7 @@ use crate::post::due_post;
 use crate::refusal::Refusal;
 use crate::refused::{due_bad, refused};
 use crate::user_add::due_user_add;
-use facts::{AdminVerb, Ask, Chronicle, Facts, Finding, Realm, Solved, current_realm};
+use facts::{Access, AdminVerb, Ask, Chronicle, Facts, Finding, Realm, Solved, current_realm};
 use login_base::{Memory, Steps, Words};
 use std::alloc::Global;
 use std::sync::ledger::Ledger;
@@ -30,8 +30,19 @@ pub(crate) fn realm_now<'a, L: Ledger>(chronicle: &'a Chronicle, steps: &mut Ste
     }
 }
 
+/// An administrator comes in locally, or with the realm's key.
+#[tactic(auto, unfolding(crate::specs::Due::has_key))]
+fn has_key(realm: &Realm, access: &Access) -> Result<(), Refusal>
+    ensures { result ≡ has_key realm.now access.now }
+{
+    match access {
+        Access::Key(digest) if *digest != realm.parts().admin_key => Err(Refusal::WrongKey),
+        _ => Ok(()),
+    }
+}
+
 /// What an administrator's verb is due.
-fn due_admin<L: Ledger>(
+fn due_verb<L: Ledger>(
     alloc: Global,
     facts: &Facts<'_>,
     verb: &AdminVerb,
@@ -40,7 +51,7 @@ fn due_admin<L: Ledger>(
 ) -> Result<Answer, Memory>
     requires serial { last_stored_serial facts.now ≤ 2 ^ 63 - 8 }
     requires keepable { IsKeepable finding.now }
-    ensures { IfOk result (λ answer. answer ≡ due_admin facts.now verb.now finding.now) }
+    ensures { IfOk result (λ answer. answer ≡ due_verb facts.now verb.now finding.now) }
 {
     match verb {
         AdminVerb::UserAdd {
@@ -51,6 +62,26 @@ fn due_admin<L: Ledger>(
             ..
         } => due_user_add(alloc, facts, name, otp, roles, actions, finding, steps),
         _ => refused(alloc, facts, Refusal::NotBuilt, steps),
+    }
+}
+
+/// What an administrator's ask is due.
+#[tactic(auto, unfolding(crate::specs::Due::due_admin))]
+fn due_admin<L: Ledger>(
+    facts: &Facts<'_>,
+    context: &Context<'_>,
+    access: &Access,
+    verb: &AdminVerb,
+    finding: &Finding,
+    steps: &mut Steps<L>,
+) -> Result<Answer, Memory>
+    requires serial { last_stored_serial facts.now ≤ 2 ^ 63 - 8 }
+    requires keepable { IsKeepable finding.now }
+    ensures { IfOk result (λ answer. answer ≡ due_admin facts.now context.now.realm access.now verb.now finding.now) }
+{
+    match has_key(context.realm, access) {
+        Ok(()) => due_verb(context.alloc, facts, verb, finding, steps),
+        Err(refusal) => refused(context.alloc, facts, refusal, steps),
     }
 }
 
@@ -88,7 +119,7 @@ pub(crate) fn due<L: Ledger>(
             code,
             form,
         } => due_post(chronicle, &context, root, *tab, code, form, finding, steps),
-        Ask::Admin { verb, .. } => due_admin(alloc, &facts, verb, finding, steps),
+        Ask::Admin { access, verb } => due_admin(&facts, &context, access, verb, finding, steps),
         _ => refused(alloc, &facts, Refusal::NotBuilt, steps),
     }
 }

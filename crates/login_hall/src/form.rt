@@ -1,7 +1,7 @@
 //! What the forms of a post are: whom each names, whose password it gives, and which execution it
 //! answers.
 ghost use Rattle.std.specs.Prelude.{◌≡◌, [], ◌∷◌, ◌++◌, IfOk, OnOk};
-ghost use Rattle.login_hall.specs.Forms.{named_by, target_of, is_need, is_of, named, passed, evidence_of};
+ghost use Rattle.login_hall.specs.Forms.{named_by, target_of, concerned, is_need, is_of, named, passed, evidence_of};
 
 use facts::{Fact, Facts, Form, Need, account_named};
 use flow_tree::Kind;
@@ -33,6 +33,16 @@ pub(crate) fn target_of(named: Option<UserId>, who: Option<UserId>, form: &Form)
         Form::NamePassword { .. } => named,
         Form::Password { .. } => who,
         _ => None,
+    }
+}
+
+/// The user whom a post concerns: the one whom it names, else `who`, whose login it is.
+pub(crate) fn concerned(named: Option<UserId>, who: Option<UserId>) -> Option<UserId>
+    ensures { result ≡ concerned named who }
+{
+    match named {
+        Some(user) => Some(user),
+        None => who,
     }
 }
 

@@ -5,7 +5,7 @@ ghost use Rattle.facts.specs.Passwords.{password_use, password_text, emptied, is
 ghost use Rattle.facts.specs.Realms.{has_realm};
 ghost use Rattle.login_hall.specs.Realms.{realm_now};
 ghost use Rattle.login_hall.specs.Begun.{solution_of, is_work};
-ghost use Rattle.login_hall.specs.Found.{salt_of, who_in, form_target, target_of, target_password, task_for, finding_of, solved_of, has_password, HasRounds, MayHave};
+ghost use Rattle.login_hall.specs.Found.{salt_of, who_in, form_target, checked_user, target_password, task_for, finding_of, solved_of, has_password, HasRounds, MayHave};
 
 use crate::begun::Begun;
 use crate::due::realm_now;
@@ -71,14 +71,14 @@ fn form_target<L: Ledger>(
 }
 
 /// The account whose password an ask checks.
-#[tactic(auto, unfolding(crate::specs::Found::target_of))]
-fn target_of<L: Ledger>(
+#[tactic(auto, unfolding(crate::specs::Found::checked_user))]
+fn checked_user<L: Ledger>(
     facts: &Facts<'_>,
     moment: u64,
     ask: &Ask,
     steps: &mut Steps<L>,
 ) -> Option<UserId>
-    ensures { result ≡ target_of facts.now moment ask.now }
+    ensures { result ≡ checked_user facts.now moment ask.now }
 {
     match ask {
         Ask::Post {
@@ -100,7 +100,7 @@ fn target_password<L: Ledger>(
 ) -> Option<UserPassword>
     ensures { result ≡ target_password facts.now moment ask.now }
 {
-    let target = target_of(facts, moment, ask, steps);
+    let target = checked_user(facts, moment, ask, steps);
     password_for(facts, target, steps)
 }
 

@@ -27,7 +27,10 @@ mod sequences;
 mod shown;
 mod start;
 mod task;
+#[cfg(test)]
+mod tests;
 mod user_add;
+mod users;
 mod visit;
 mod work;
 

@@ -7,7 +7,7 @@ ghost use Rattle.login_hall.specs.Progress.{asked_in};
 use crate::answer::Answer;
 use crate::check::Check;
 use crate::context::Context;
-use crate::form::{Passing, is_of, named_by, target_of};
+use crate::form::{Passing, concerned, is_of, named_by, target_of};
 use crate::ids::next_code;
 use crate::known_tab::KnownTab;
 use crate::outcome::Outcome;
@@ -18,7 +18,7 @@ use crate::refusal::Refusal;
 use crate::refused::{in_tab, refused, refused_in};
 use crate::sequences::joined;
 use crate::shown::{rendered, shown};
-use crate::visit::{known_tab, not_split, same_user, unfinished, user_of};
+use crate::visit::{enabled, known_tab, not_split, same_user, unfinished, user_of};
 use facts::{Chronicle, Fact, Facts, Finding, Form, Need, Next, UserPassword, What};
 use login_base::{Code, Memory, RootKey, Sequence, Steps, TabKey, UserId, discard, same_id};
 use std::alloc::Global;
@@ -162,13 +162,15 @@ fn posted<L: Ledger>(
     ensures { result ≡ posted facts.now moment known.now asked.now code.now form.now finding.now }
 {
     let named = named_by(facts, form, steps);
-    let target = target_of(named, known.state.who(moment), form);
+    let who = known.state.who(moment);
+    let target = target_of(named, who, form);
     let password = password_for(facts, target, steps);
     current_code(known, code)?;
     not_split(moment, known)?;
     not_other(moment, known, named)?;
     unfinished(known)?;
     is_asked(asked, form)?;
+    enabled(facts, concerned(named, who), steps)?;
     unmoved(&password, finding)?;
     Ok(check_of(named, target, password, form, finding))
 }

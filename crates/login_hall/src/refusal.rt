@@ -5,6 +5,8 @@ use login_base::{Code, UserId};
 pub(crate) enum Refusal {
     /// The ask has a part that isn't built yet.
     NotBuilt,
+    /// The administrator's key isn't the realm's.
+    WrongKey,
     /// An account has the name already.
     UserTaken,
     /// The realm has no such client.
@@ -19,6 +21,8 @@ pub(crate) enum Refusal {
     Finished,
     /// The execution isn't asked, or takes another form.
     NotAsked,
+    /// The user concerned is disabled.
+    Disabled,
     /// The password was checked against another one than the user's.
     CredentialMoved { had: u64, now: u64 },
 }

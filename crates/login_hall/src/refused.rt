@@ -79,6 +79,9 @@ pub(crate) fn what_of<L: Ledger>(
         Refusal::NotBuilt => What::BadForm {
             at: Name::known(alloc, b"verb")?,
         },
+        Refusal::WrongKey => What::AdminRefused {
+            rule: Rule::WrongKey,
+        },
         Refusal::UserTaken => What::AdminRefused {
             rule: Rule::UserTaken,
         },
@@ -91,6 +94,7 @@ pub(crate) fn what_of<L: Ledger>(
         },
         Refusal::Finished => What::Finished,
         Refusal::NotAsked => What::NotAsked,
+        Refusal::Disabled => What::Disabled,
         Refusal::CredentialMoved { had, now } => What::CredentialMoved { had, now },
     })
 }

@@ -165,7 +165,7 @@ pub(crate) fn visited<L: Ledger>(
     requires stored { last_stored_serial facts.now ≤ 2 ^ 63 }
     ensures { IfOk result (λ outcome. outcome ≡ visited facts.now context.now known.now) }
 {
-    match going(context.moment, known) {
+    match going(facts, context.moment, known, steps) {
         Ok(()) => shown(facts, context, known, steps),
         Err(refusal) => Ok(Outcome {
             what: what_of(context.alloc, facts, refusal, steps)?,

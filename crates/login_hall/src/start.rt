@@ -2,9 +2,10 @@ ghost use Rattle.std.specs.Prelude.{◌≡◌, ◌<◌, ◌≤◌, ◌+◌, ◌-
 ghost use Rattle.std.specs.Option.{option_copied};
 ghost use Rattle.facts.specs.Realms.{last_version};
 ghost use Rattle.facts.specs.Serials.{last_stored_serial};
-ghost use Rattle.login_hall.specs.Start.{put_without, IsPutGiven, IsPut, IsStart, realm_facts, disabled_facts, password_facts, user_facts, new_user_facts, serial_after, users_facts, users_after, serials_of};
+ghost use Rattle.login_hall.specs.Start.{put_without, IsPutGiven, IsPut, IsStart, realm_facts, disabled_facts, user_facts, new_user_facts, serial_after, users_facts, users_after, serials_of};
 
 use crate::sequences::joined;
+use crate::users::add_password;
 use facts::{
     Chronicle, Fact, Facts, PasswordHash, Realm, RealmUser, Secret, SecretKind, account_named,
     current_realm, last_stored_serial, last_version,
@@ -84,27 +85,6 @@ fn add_disabled(added: &mut Sequence<Fact>, user: UserId, enabled: bool) -> Resu
         Ok(())
     } else {
         added.push(Fact::Disabled { user })
-    }
-}
-
-/// A password has the serial after the user's.
-fn add_password(
-    added: &mut Sequence<Fact>,
-    user: UserId,
-    password: &Option<PasswordHash>,
-) -> Result<(), Memory>
-    requires { user.0 ≤ 2 ^ 63 }
-    ensures { OnOk result (added.new ≡ added.old ++ password_facts user password.now) }
-{
-    match password {
-        Some(hash) => added.push(Fact::SecretSet {
-            user,
-            kind: SecretKind::Password,
-            serial: user.0 + 1,
-            secret: Secret::Password { hash: *hash },
-            by: None,
-        }),
-        None => Ok(()),
     }
 }
 

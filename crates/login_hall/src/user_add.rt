@@ -1,14 +1,14 @@
 ghost use Rattle.std.specs.Prelude.{◌≡◌, ◌<◌, ◌≤◌, ◌+◌, ◌-◌, ◌^◌, ◌++◌, true, IfOk, OnOk};
 ghost use Rattle.facts.specs.Passwords.{is_iterations};
 ghost use Rattle.facts.specs.Serials.{last_stored_serial};
-ghost use Rattle.login_hall.specs.UserAdd.{without_setup, name_free, new_user, user_text, first_password, user_added, due_user_add, IsKeepable};
+ghost use Rattle.login_hall.specs.UserAdd.{without_setup, name_free, new_user, user_text, derived, user_added, due_user_add, IsKeepable};
 
 use crate::answer::Answer;
 use crate::refusal::Refusal;
 use crate::refused::{plain, refused};
+use crate::users::add_password;
 use facts::{
-    Action, Fact, Facts, Finding, OtpSecret, PasswordHash, Secret, SecretKind, What, account_named,
-    last_stored_serial,
+    Action, Fact, Facts, Finding, OtpSecret, PasswordHash, What, account_named, last_stored_serial,
 };
 use login_base::{Duplicate, Memory, Name, Sequence, Steps, UserId};
 use std::alloc::Global;
@@ -66,42 +66,18 @@ fn user_text(alloc: Global, name: &Name, user: UserId) -> Result<Sequence<u8>, M
     Ok(Sequence::from_vec(text))
 }
 
-/// A derived password as it is kept.
-fn kept(salt: &[u8; 16], iterations: u32, digest: &[u8; 32]) -> PasswordHash
-    requires { is_iterations iterations ≡ true }
-    ensures { result ≡ record { salt = salt.now; iterations = iterations; digest = digest.now } }
-{
-    match PasswordHash::new(salt, iterations, *digest) {
-        Some(hash) => hash,
-        None => unreachable!(),
-    }
-}
-
-/// Adds the setting of a derived password, with the serial after the user's.
-fn add_first_password(
-    added: &mut Sequence<Fact>,
-    user: UserId,
-    finding: &Finding,
-) -> Result<(), Memory>
-    requires keepable { IsKeepable finding.now }
-    requires serial { user.0 < 2 ^ 64 - 1 }
-    ensures { OnOk result (added.new ≡ added.old ++ first_password user finding.now) }
+/// The password that was derived, as it is kept.
+fn derived(finding: &Finding) -> Option<PasswordHash>
+    requires { IsKeepable finding.now }
+    ensures { result ≡ derived finding.now }
 {
     match finding {
         Finding::Derived {
             salt,
             iterations,
             digest,
-        } => added.push(Fact::SecretSet {
-            user,
-            kind: SecretKind::Password,
-            serial: user.0 + 1,
-            secret: Secret::Password {
-                hash: kept(salt, *iterations, digest),
-            },
-            by: None,
-        }),
-        _ => Ok(()),
+        } => PasswordHash::new(salt, *iterations, *digest),
+        _ => None,
     }
 }
 
@@ -124,7 +100,7 @@ fn user_added(
         name: name.duplicate(alloc)?,
         roles: roles.duplicate(alloc)?,
     })?;
-    add_first_password(&mut added, user, finding)?;
+    add_password(&mut added, user, &derived(finding))?;
     let reply = plain(What::Told { text });
     Ok(Answer { reply, added })
 }

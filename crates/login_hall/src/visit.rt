@@ -1,10 +1,10 @@
 ghost use Rattle.std.specs.Prelude.{◌≡◌, IfOk};
 ghost use Rattle.facts.specs.Tabs.{tab_state};
-ghost use Rattle.login_hall.specs.Visit.{tab_in, known_tab, user_of, same_user, not_split, unfinished, going};
+ghost use Rattle.login_hall.specs.Visit.{tab_in, known_tab, user_of, same_user, not_split, unfinished, enabled, going};
 
 use crate::known_tab::KnownTab;
 use crate::refusal::Refusal;
-use facts::{Facts, RootSession, tab_state};
+use facts::{Facts, RootSession, is_disabled, tab_state};
 use login_base::{RootKey, Steps, TabKey, UserId};
 use std::sync::ledger::Ledger;
 
@@ -87,11 +87,32 @@ pub(crate) fn unfinished(known: &KnownTab) -> Result<(), Refusal>
     Ok(())
 }
 
+/// The user is unknown, or isn't disabled.
+#[tactic(auto, unfolding(crate::specs::Visit::enabled))]
+pub(crate) fn enabled<L: Ledger>(
+    facts: &Facts<'_>,
+    user: Option<UserId>,
+    steps: &mut Steps<L>,
+) -> Result<(), Refusal>
+    ensures { result ≡ enabled facts.now user }
+{
+    match user {
+        Some(user) if is_disabled(facts, user, steps) => Err(Refusal::Disabled),
+        _ => Ok(()),
+    }
+}
+
 /// The tab may go on.
 #[tactic(auto, unfolding(crate::specs::Visit::going))]
-pub(crate) fn going(moment: u64, known: &KnownTab) -> Result<(), Refusal>
-    ensures { result ≡ going moment known.now }
+pub(crate) fn going<L: Ledger>(
+    facts: &Facts<'_>,
+    moment: u64,
+    known: &KnownTab,
+    steps: &mut Steps<L>,
+) -> Result<(), Refusal>
+    ensures { result ≡ going facts.now moment known.now }
 {
     not_split(moment, known)?;
-    unfinished(known)
+    unfinished(known)?;
+    enabled(facts, known.state.who(moment), steps)
 }

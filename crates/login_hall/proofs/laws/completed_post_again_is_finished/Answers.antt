@@ -1,6 +1,6 @@
 use Rattle.login_hall.specs.Laws.{setting_of}
 use Rattle.login_hall.proofs.PostLaws.{repeat_refused}
-use Rattle.login_hall.proofs.laws.repeated_post_is_refused.Goals as goal
+use Rattle.login_hall.proofs.laws.completed_post_again_is_finished.Goals as goal
 
 pub returns : goal.returns
 returns c =

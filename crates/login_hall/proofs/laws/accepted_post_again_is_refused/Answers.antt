@@ -1,6 +1,6 @@
 use Rattle.login_hall.specs.Laws.{setting_of}
 use Rattle.login_hall.proofs.RepeatLaws.{again_refused, again_adds_nothing}
-use Rattle.login_hall.proofs.laws.accepted_post_is_refused_again.Goals as goal
+use Rattle.login_hall.proofs.laws.accepted_post_again_is_refused.Goals as goal
 
 pub returns : goal.returns
 returns c =
