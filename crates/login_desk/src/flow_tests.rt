@@ -4,12 +4,11 @@ ghost use Rattle.facts.specs.Realms.{has_realm};
 ghost use Rattle.login_hall.specs.HallState.{facts_of};
 
 use crate::lines::is_passed;
-use crate::number::number;
-use crate::tests::text_of;
+use crate::tests::{replay_each, spelled};
 use crate::turn::enter_line;
 use facts::Realm;
 use flow_tree::{Body, Exec, Kind, Requirement, Tree};
-use login_base::{Duplicate, Id, Steps, id_text, read_name};
+use login_base::{Duplicate, Steps, read_name};
 use login_hall::Hall;
 use sqlite_items::Items;
 use std::alloc::Global;
@@ -90,34 +89,6 @@ fn realm_of(alloc: Global, steps: &[Step]) -> Result<Realm, Fail> {
     let mut parts = builtin.parts().duplicate(alloc)?;
     parts.flow = tree_of(alloc, steps)?;
     Ok(Realm::new(alloc, parts)?.ok_or("no realm")?)
-}
-
-/// The id of a serial and two words that follow each other, from `serial/word`.
-fn id_of(text: &str) -> Option<Id> {
-    let (serial, word) = text.split_once('/')?;
-    let serial = number(serial.as_bytes(), u64::MAX)?;
-    let word = number(word.as_bytes(), u64::MAX - 1)?;
-    Some(Id {
-        serial,
-        high: word,
-        low: word + 1,
-    })
-}
-
-/// The text with each `[serial/word]` spelled as the id that it stands for.
-fn spelled(alloc: Global, text: &str) -> Result<Vec<u8>, Fail> {
-    let mut bytes = Vec::new(alloc);
-    for (i, part) in text.split('[').enumerate() {
-        if i == 0 {
-            bytes.extend_from_slice(part.as_bytes())?;
-            continue;
-        }
-        let (id, rest) = part.split_once(']').ok_or("no end of an id")?;
-        let id = id_of(id).ok_or("no id")?;
-        bytes.extend_from_slice(&id_text(&id))?;
-        bytes.extend_from_slice(rest.as_bytes())?;
-    }
-    Ok(bytes)
 }
 
 /// Adds what the hall answers to a line.
@@ -361,13 +332,13 @@ fn each_flow_is_played_step_by_step(rt: HostRuntime) -> Result<(), Fail> {
         let realm = realm_of(rt.alloc(), steps)?;
         let text = spelled(rt.alloc(), text)?;
         let answers = answered(rt.alloc(), realm, script)?;
-        assert_eq!(rt; answers.as_slice(), text.as_slice());
+        assert_eq!(rt; answers.as_slice(), text.as_slice(), "{script}");
     }
     Ok(())
 }
 
-/// Scripts that the program answers. `[serial/word]` is an id.
-const SCRIPTS: [(&str, &str); 3] = [
+/// Scripts where a code is replaced, and what the program writes. `[serial/word]` is an id.
+const REPLACED_CODES: [(&str, &str); 2] = [
     // A page gives a new code, and the old one is stale.
     (
         "1000 100 user-add name=ann&password=pw1
@@ -398,8 +369,17 @@ refused 16 BadCredentials form code=[5/504] asked=form:form
 refused 7 UnknownTab
 ",
     ),
-    // Of two refusals that hold at once the first stands: Stale, OtherUser, Finished, NotAsked,
-    // BadCredentials. The session ends its idle time at 1,803,200.
+];
+
+#[test]
+fn a_replaced_code_is_stale(rt: HostRuntime) -> Result<(), Fail> {
+    replay_each(&rt, rt.alloc(), &REPLACED_CODES)
+}
+
+/// A script where several refusals hold at once, and what the program writes: the first of Stale,
+/// OtherUser, Finished, NotAsked, BadCredentials. `[serial/word]` is an id.
+const FIRST_REFUSALS: [(&str, &str); 1] = [
+    // The session ends its idle time at 1,803,200.
     (
         "1000 100 user-add name=ann&password=pw1
 1500 150 user-add name=bob&password=pw2
@@ -437,11 +417,5 @@ refused 11 Finished
 
 #[test]
 fn the_first_refusal_stands(rt: HostRuntime) -> Result<(), Fail> {
-    for (script, text) in SCRIPTS {
-        let script = spelled(rt.alloc(), script)?;
-        let text = spelled(rt.alloc(), text)?;
-        let answered = text_of(&rt, rt.alloc(), script.as_slice())?;
-        assert_eq!(rt; answered.as_slice(), text.as_slice());
-    }
-    Ok(())
+    replay_each(&rt, rt.alloc(), &FIRST_REFUSALS)
 }

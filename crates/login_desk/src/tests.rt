@@ -1,8 +1,9 @@
 use crate::lines::asked_of;
+use crate::number::number;
 use crate::run::run;
 use crate::status::Status;
 use facts::{Ask, Form};
-use login_base::{Argv, MemSink, MemSource, Memory, RootKey, id_text};
+use login_base::{Argv, Id, MemSink, MemSource, Memory, RootKey, id_text};
 use std::alloc::Global;
 use std::process::Abort;
 use std::test::Fail;
@@ -36,49 +37,114 @@ fn run_on(
 }
 
 /// What a replay of a script writes, where nothing fails.
-pub(crate) fn text_of(rt: &impl Abort, alloc: Global, script: &[u8]) -> Result<Vec<u8>, Memory> {
+fn text_of(rt: &impl Abort, alloc: Global, script: &[u8]) -> Result<Vec<u8>, Memory> {
     let replayed = run_on(alloc, &["replay"], script, &[], &[])?;
     assert_eq!(rt; replayed.status, 0);
     Ok(replayed.text)
 }
 
-/// Scripts and what is written for them.
+/// The id of a serial and two words that follow each other, from `serial/word`.
+fn id_of(text: &str) -> Option<Id> {
+    let (serial, word) = text.split_once('/')?;
+    let serial = number(serial.as_bytes(), u64::MAX)?;
+    let word = number(word.as_bytes(), u64::MAX - 1)?;
+    Some(Id {
+        serial,
+        high: word,
+        low: word + 1,
+    })
+}
+
+/// The text with each `[serial/word]` spelled as the id that it stands for.
+pub(crate) fn spelled(alloc: Global, text: &str) -> Result<Vec<u8>, Fail> {
+    let mut bytes = Vec::new(alloc);
+    for (i, part) in text.split('[').enumerate() {
+        if i == 0 {
+            bytes.extend_from_slice(part.as_bytes())?;
+            continue;
+        }
+        let (id, rest) = part.split_once(']').ok_or("no end of an id")?;
+        let id = id_of(id).ok_or("no id")?;
+        bytes.extend_from_slice(&id_text(&id))?;
+        bytes.extend_from_slice(rest.as_bytes())?;
+    }
+    Ok(bytes)
+}
+
+/// Replays each script, and compares what is written with the text beside it, both spelled.
+pub(crate) fn replay_each(
+    rt: &impl Abort,
+    alloc: Global,
+    cases: &[(&str, &str)],
+) -> Result<(), Fail> {
+    for (script, text) in cases {
+        let lines = spelled(alloc, script)?;
+        let text = spelled(alloc, text)?;
+        assert_eq!(rt;
+            text_of(rt, alloc, lines.as_slice())?.as_slice(),
+            text.as_slice(),
+            "{script}"
+        );
+    }
+    Ok(())
+}
+
+/// Scripts and what is written for them. `[serial/word]` is an id.
 const SCRIPTS: [(&str, &str); 9] = [
     ("", ""),
+    // Blank lines and a comment aren't answered.
     ("\n\n# 1 1 open client=app\n", ""),
     ("x\n", "refused 1 BadForm at=head\n"),
+    // A name is taken whatever its capitals, and each open has a root of its own.
     (
-        "1000 100 user-add name=Ann\n2000 200 open client=app\n2500 250 user-add name=ann\n3000 300 open client=app\n",
-        "told user name=ann id=1\nroot=0000000000000001.00000000000000c800000000000000c9 tab=0000000000000002.00000000000000ca00000000000000cb form code=0000000000000003.00000000000000cc00000000000000cd asked=form:form\nrefused 2 AdminRefused rule=UserTaken\nroot=0000000000000004.000000000000012c000000000000012d tab=0000000000000005.000000000000012e000000000000012f form code=0000000000000006.00000000000001300000000000000131 asked=form:form\n",
+        "1000 100 user-add name=Ann
+2000 200 open client=app
+2500 250 user-add name=ann
+3000 300 open client=app
+",
+        "told user name=ann id=1
+root=[1/200] tab=[2/202] form code=[3/204] asked=form:form
+refused 2 AdminRefused rule=UserTaken
+root=[4/300] tab=[5/302] form code=[6/304] asked=form:form
+",
     ),
+    // The last line needs no newline.
     ("1 1 user-add name=ann", "told user name=ann id=1\n"),
+    // Keys and values are decoded, and other pairs don't count.
     (
-        "0 0 user-add na%6de=%41nn&other=1&=&&x\n0 0 user-add name=9.b_c@d-e&Password=p\n",
-        "told user name=ann id=1\ntold user name=9.b_c@d-e id=2\n",
+        "0 0 user-add na%6de=%41nn&other=1&=&&x
+0 0 user-add name=9.b_c@d-e&Password=p
+",
+        "told user name=ann id=1
+told user name=9.b_c@d-e id=2
+",
     ),
+    // The greatest time, and the greatest word: the next word is 0.
     (
         "9007199254740991 18446744073709551615 open client=app\n",
-        "root=0000000000000001.ffffffffffffffff0000000000000000 tab=0000000000000002.00000000000000010000000000000002 form code=0000000000000003.00000000000000030000000000000004 asked=form:form\n",
+        "root=0000000000000001.ffffffffffffffff0000000000000000 tab=[2/1] form code=[3/3] asked=form:form\n",
     ),
+    // A carriage return belongs to the name.
     (
-        "x\n1 1 user-add name=ann\r\n",
-        "refused 1 BadForm at=head\nrefused 1 BadForm at=name\n",
+        "x
+1 1 user-add name=ann\r
+",
+        "refused 1 BadForm at=head
+refused 1 BadForm at=name
+",
     ),
+    // A space belongs to the name.
     (
         "1 1 user-add name=ann \n1 1 user-add name=%61\n",
-        "refused 1 BadForm at=name\ntold user name=a id=1\n",
+        "refused 1 BadForm at=name
+told user name=a id=1
+",
     ),
 ];
 
 #[test]
 fn scripts_are_answered(rt: HostRuntime) -> Result<(), Fail> {
-    for (script, text) in SCRIPTS {
-        assert_eq!(rt;
-            text_of(&rt, rt.alloc(), script.as_bytes())?.as_slice(),
-            text.as_bytes()
-        );
-    }
-    Ok(())
+    replay_each(&rt, rt.alloc(), &SCRIPTS)
 }
 
 /// Malformed lines, and the first place that is malformed.
@@ -145,217 +211,250 @@ fn malformed_lines_name_their_first_place(rt: HostRuntime) -> Result<(), Fail> {
     Ok(())
 }
 
-/// Logins, and what is written for them: a whole one and its repeat; a wrong password, the same post
-/// again, an unknown name and an unknown tab; a user without a password, and tabs of other roots; two
-/// tabs.
+/// Logins, and what is written for them. `[serial/word]` is an id.
 const LOGINS: [(&str, &str); 4] = [
+    // A whole one, and its repeat.
     (
-        "1000 100 user-add name=ann&password=pw1\n2000 200 open client=app\n3000 300 post root=0000000000000001.00000000000000c800000000000000c9&tab=0000000000000002.00000000000000ca00000000000000cb&code=0000000000000003.00000000000000cc00000000000000cd&execution=form&name=ann&password=pw1\n4000 400 post root=0000000000000001.00000000000000c800000000000000c9&tab=0000000000000002.00000000000000ca00000000000000cb&code=0000000000000003.00000000000000cc00000000000000cd&execution=form&name=ann&password=pw1\n",
-        "told user name=ann id=1\nroot=0000000000000001.00000000000000c800000000000000c9 tab=0000000000000002.00000000000000ca00000000000000cb form code=0000000000000003.00000000000000cc00000000000000cd asked=form:form\ndone session=0000000000000003.00000000000001320000000000000133 user=ann level=0\nrefused 11 Finished\n",
+        "1000 100 user-add name=ann&password=pw1
+2000 200 open client=app
+3000 300 post root=[1/200]&tab=[2/202]&code=[3/204]&execution=form&name=ann&password=pw1
+4000 400 post root=[1/200]&tab=[2/202]&code=[3/204]&execution=form&name=ann&password=pw1
+",
+        "told user name=ann id=1
+root=[1/200] tab=[2/202] form code=[3/204] asked=form:form
+done session=[3/306] user=ann level=0
+refused 11 Finished
+",
     ),
+    // A wrong password, the same post again, an unknown name, and an unknown tab.
     (
-        "1000 100 user-add name=ann&password=pw1\n2000 200 open client=app\n3000 300 post root=0000000000000001.00000000000000c800000000000000c9&tab=0000000000000002.00000000000000ca00000000000000cb&code=0000000000000003.00000000000000cc00000000000000cd&execution=form&name=ann&password=bad\n3000 300 post root=0000000000000001.00000000000000c800000000000000c9&tab=0000000000000002.00000000000000ca00000000000000cb&code=0000000000000003.00000000000000cc00000000000000cd&execution=form&name=ann&password=bad\n5000 500 post root=0000000000000001.00000000000000c800000000000000c9&tab=0000000000000002.00000000000000ca00000000000000cb&code=0000000000000004.00000000000001300000000000000131&execution=form&name=zed&password=pw1\n5000 500 post root=0000000000000001.00000000000000c800000000000000c9&tab=0000000000000009.00000000000000000000000000000001&code=0000000000000005.00000000000001f800000000000001f9&execution=form&name=ann&password=pw1\n",
-        "told user name=ann id=1\nroot=0000000000000001.00000000000000c800000000000000c9 tab=0000000000000002.00000000000000ca00000000000000cb form code=0000000000000003.00000000000000cc00000000000000cd asked=form:form\nrefused 16 BadCredentials form code=0000000000000004.00000000000001300000000000000131 asked=form:form\nrefused 9 Stale current=0000000000000004.00000000000001300000000000000131\nrefused 16 BadCredentials form code=0000000000000005.00000000000001f800000000000001f9 asked=form:form\nrefused 7 UnknownTab\n",
+        "1000 100 user-add name=ann&password=pw1
+2000 200 open client=app
+3000 300 post root=[1/200]&tab=[2/202]&code=[3/204]&execution=form&name=ann&password=bad
+3000 300 post root=[1/200]&tab=[2/202]&code=[3/204]&execution=form&name=ann&password=bad
+5000 500 post root=[1/200]&tab=[2/202]&code=[4/304]&execution=form&name=zed&password=pw1
+5000 500 post root=[1/200]&tab=[9/0]&code=[5/504]&execution=form&name=ann&password=pw1
+",
+        "told user name=ann id=1
+root=[1/200] tab=[2/202] form code=[3/204] asked=form:form
+refused 16 BadCredentials form code=[4/304] asked=form:form
+refused 9 Stale current=[4/304]
+refused 16 BadCredentials form code=[5/504] asked=form:form
+refused 7 UnknownTab
+",
     ),
+    // A user without a password; a tab of another root, of none, and of one that is no id.
     (
-        "1 1 user-add name=bob\n2 200 open client=app\n3 300 post root=0000000000000001.00000000000000c800000000000000c9&tab=0000000000000002.00000000000000ca00000000000000cb&code=0000000000000003.00000000000000cc00000000000000cd&execution=form&name=Bob&password=pw1\n4 400 post root=0000000000000001.00000000000000c800000000000000c9&tab=0000000000000002.00000000000000ca00000000000000cb&code=0000000000000003.00000000000000cc00000000000000cd&execution=form&name=ann&password=pw1\n5 500 post root=0000000000000009.0000000000000009000000000000000a&tab=0000000000000002.00000000000000ca00000000000000cb&code=0000000000000004.00000000000001300000000000000131&execution=form&name=ann&password=pw1\n6 600 post tab=0000000000000002.00000000000000ca00000000000000cb&code=0000000000000004.00000000000001300000000000000131&execution=form&name=bob&password=x\n7 700 post root=zip&tab=0000000000000002.00000000000000ca00000000000000cb&code=0000000000000004.00000000000001300000000000000131&execution=form&name=bob&password=x\n8 800 user-add name=Bob&password=y\n",
-        "told user name=bob id=1\nroot=0000000000000001.00000000000000c800000000000000c9 tab=0000000000000002.00000000000000ca00000000000000cb form code=0000000000000003.00000000000000cc00000000000000cd asked=form:form\nrefused 16 BadCredentials form code=0000000000000004.00000000000001300000000000000131 asked=form:form\nrefused 9 Stale current=0000000000000004.00000000000001300000000000000131\nrefused 7 UnknownTab\nrefused 7 UnknownTab\nrefused 7 UnknownTab\nrefused 2 AdminRefused rule=UserTaken\n",
+        "1 1 user-add name=bob
+2 200 open client=app
+3 300 post root=[1/200]&tab=[2/202]&code=[3/204]&execution=form&name=Bob&password=pw1
+4 400 post root=[1/200]&tab=[2/202]&code=[3/204]&execution=form&name=ann&password=pw1
+5 500 post root=[9/9]&tab=[2/202]&code=[4/304]&execution=form&name=ann&password=pw1
+6 600 post tab=[2/202]&code=[4/304]&execution=form&name=bob&password=x
+7 700 post root=zip&tab=[2/202]&code=[4/304]&execution=form&name=bob&password=x
+8 800 user-add name=Bob&password=y
+",
+        "told user name=bob id=1
+root=[1/200] tab=[2/202] form code=[3/204] asked=form:form
+refused 16 BadCredentials form code=[4/304] asked=form:form
+refused 9 Stale current=[4/304]
+refused 7 UnknownTab
+refused 7 UnknownTab
+refused 7 UnknownTab
+refused 2 AdminRefused rule=UserTaken
+",
     ),
+    // Two tabs.
     (
-        "1000 100 user-add name=ann&password=pw1\n2000 200 open client=app\n2500 250 open client=app\n3000 300 post root=0000000000000004.00000000000000fa00000000000000fb&tab=0000000000000005.00000000000000fc00000000000000fd&code=0000000000000006.00000000000000fe00000000000000ff&execution=form&name=ann&password=pw1\n3500 350 post root=0000000000000001.00000000000000c800000000000000c9&tab=0000000000000002.00000000000000ca00000000000000cb&code=0000000000000003.00000000000000cc00000000000000cd&execution=form&name=ann&password=pw1\n",
-        "told user name=ann id=1\nroot=0000000000000001.00000000000000c800000000000000c9 tab=0000000000000002.00000000000000ca00000000000000cb form code=0000000000000003.00000000000000cc00000000000000cd asked=form:form\nroot=0000000000000004.00000000000000fa00000000000000fb tab=0000000000000005.00000000000000fc00000000000000fd form code=0000000000000006.00000000000000fe00000000000000ff asked=form:form\ndone session=0000000000000003.00000000000001320000000000000133 user=ann level=0\ndone session=0000000000000004.00000000000001640000000000000165 user=ann level=0\n",
+        "1000 100 user-add name=ann&password=pw1
+2000 200 open client=app
+2500 250 open client=app
+3000 300 post root=[4/250]&tab=[5/252]&code=[6/254]&execution=form&name=ann&password=pw1
+3500 350 post root=[1/200]&tab=[2/202]&code=[3/204]&execution=form&name=ann&password=pw1
+",
+        "told user name=ann id=1
+root=[1/200] tab=[2/202] form code=[3/204] asked=form:form
+root=[4/250] tab=[5/252] form code=[6/254] asked=form:form
+done session=[3/306] user=ann level=0
+done session=[4/356] user=ann level=0
+",
     ),
 ];
 
 #[test]
 fn logins_are_answered(rt: HostRuntime) -> Result<(), Fail> {
-    for (script, text) in LOGINS {
-        assert_eq!(rt;
-            text_of(&rt, rt.alloc(), script.as_bytes())?.as_slice(),
-            text.as_bytes()
-        );
-    }
-    Ok(())
+    replay_each(&rt, rt.alloc(), &LOGINS)
 }
 
-/// Malformed posts and passwords, and the first place that is malformed.
+/// Malformed posts and passwords, and the first place that is malformed. `[serial/word]` is an id.
 const MALFORMED_POSTS: [(&str, &str); 49] = [
     ("1 1 post", "tab"),
     (
-        "1 1 post root=0000000000000001.00000000000000c800000000000000c9&root=0000000000000001.00000000000000c800000000000000c9&tab=0000000000000002.00000000000000ca00000000000000cb&code=0000000000000003.00000000000000cc00000000000000cd&execution=form&name=ann&password=p",
+        "1 1 post root=[1/200]&root=[1/200]&tab=[2/202]&code=[3/204]&execution=form&name=ann&password=p",
         "root",
     ),
     (
-        "1 1 post tab=x&code=0000000000000003.00000000000000cc00000000000000cd&execution=form&name=ann&password=p",
+        "1 1 post tab=x&code=[3/204]&execution=form&name=ann&password=p",
         "tab",
     ),
     (
-        "1 1 post tab=0000000000000002.00000000000000ca00000000000000cb&tab=0000000000000002.00000000000000ca00000000000000cb&code=0000000000000003.00000000000000cc00000000000000cd&execution=form&name=ann&password=p",
+        "1 1 post tab=[2/202]&tab=[2/202]&code=[3/204]&execution=form&name=ann&password=p",
         "tab",
     ),
     (
-        "1 1 post tab=0000000000000002.00000000000000ca00000000000000cb&execution=form&name=ann&password=p",
+        "1 1 post tab=[2/202]&execution=form&name=ann&password=p",
         "code",
     ),
+    // An id has no capitals.
     (
-        "1 1 post tab=0000000000000002.00000000000000ca00000000000000cb&code=0000000000000003.00000000000000CC00000000000000CD&execution=form&name=ann&password=p",
+        "1 1 post tab=[2/202]&code=0000000000000003.00000000000000CC00000000000000CD&execution=form&name=ann&password=p",
         "code",
     ),
+    ("1 1 post tab=[2/202]&code=[3/204]", "form"),
+    ("1 1 post tab=[2/202]&code=[3/204]&execution=form", "form"),
     (
-        "1 1 post tab=0000000000000002.00000000000000ca00000000000000cb&code=0000000000000003.00000000000000cc00000000000000cd",
+        "1 1 post tab=[2/202]&code=[3/204]&name=ann&password=p",
         "form",
     ),
     (
-        "1 1 post tab=0000000000000002.00000000000000ca00000000000000cb&code=0000000000000003.00000000000000cc00000000000000cd&execution=form",
+        "1 1 post tab=[2/202]&code=[3/204]&execution=form&value=1",
         "form",
     ),
     (
-        "1 1 post tab=0000000000000002.00000000000000ca00000000000000cb&code=0000000000000003.00000000000000cc00000000000000cd&name=ann&password=p",
+        "1 1 post tab=[2/202]&code=[3/204]&execution=form&name=ann&password=p&value=1",
         "form",
     ),
     (
-        "1 1 post tab=0000000000000002.00000000000000ca00000000000000cb&code=0000000000000003.00000000000000cc00000000000000cd&execution=form&value=1",
+        "1 1 post tab=[2/202]&code=[3/204]&execution=form&name=ann&password=p&action=terms",
         "form",
     ),
+    ("1 1 post tab=[2/202]&code=[3/204]&action=terms", "form"),
     (
-        "1 1 post tab=0000000000000002.00000000000000ca00000000000000cb&code=0000000000000003.00000000000000cc00000000000000cd&execution=form&name=ann&password=p&value=1",
-        "form",
-    ),
-    (
-        "1 1 post tab=0000000000000002.00000000000000ca00000000000000cb&code=0000000000000003.00000000000000cc00000000000000cd&execution=form&name=ann&password=p&action=terms",
-        "form",
-    ),
-    (
-        "1 1 post tab=0000000000000002.00000000000000ca00000000000000cb&code=0000000000000003.00000000000000cc00000000000000cd&action=terms",
-        "form",
-    ),
-    (
-        "1 1 post tab=0000000000000002.00000000000000ca00000000000000cb&code=0000000000000003.00000000000000cc00000000000000cd&execution=Form&name=a+b&password=",
+        "1 1 post tab=[2/202]&code=[3/204]&execution=Form&name=a+b&password=",
         "execution",
     ),
     (
-        "1 1 post tab=0000000000000002.00000000000000ca00000000000000cb&code=0000000000000003.00000000000000cc00000000000000cd&execution=form&name=ann&password=p&execution=form",
+        "1 1 post tab=[2/202]&code=[3/204]&execution=form&name=ann&password=p&execution=form",
         "execution",
     ),
     (
-        "1 1 post tab=0000000000000002.00000000000000ca00000000000000cb&code=0000000000000003.00000000000000cc00000000000000cd&execution=form&name=a+b&password=",
+        "1 1 post tab=[2/202]&code=[3/204]&execution=form&name=a+b&password=",
         "name",
     ),
     (
-        "1 1 post tab=0000000000000002.00000000000000ca00000000000000cb&code=0000000000000003.00000000000000cc00000000000000cd&execution=form&name=ann&password=p&name=ann",
+        "1 1 post tab=[2/202]&code=[3/204]&execution=form&name=ann&password=p&name=ann",
         "name",
     ),
     (
-        "1 1 post tab=0000000000000002.00000000000000ca00000000000000cb&code=0000000000000003.00000000000000cc00000000000000cd&execution=form&name=ann&password=",
+        "1 1 post tab=[2/202]&code=[3/204]&execution=form&name=ann&password=",
         "password",
     ),
     (
-        "1 1 post tab=0000000000000002.00000000000000ca00000000000000cb&code=0000000000000003.00000000000000cc00000000000000cd&execution=form&name=ann&password=a%ffb",
+        "1 1 post tab=[2/202]&code=[3/204]&execution=form&name=ann&password=a%ffb",
         "password",
     ),
     (
-        "1 1 post tab=0000000000000002.00000000000000ca00000000000000cb&code=0000000000000003.00000000000000cc00000000000000cd&execution=form&name=ann&password=%EF%BF%BD",
+        "1 1 post tab=[2/202]&code=[3/204]&execution=form&name=ann&password=%EF%BF%BD",
         "password",
     ),
     (
-        "1 1 post tab=0000000000000002.00000000000000ca00000000000000cb&code=0000000000000003.00000000000000cc00000000000000cd&execution=form&name=ann&password=p&password=p",
+        "1 1 post tab=[2/202]&code=[3/204]&execution=form&name=ann&password=p&password=p",
         "password",
     ),
     (
-        "1 1 post tab=0000000000000002.00000000000000ca00000000000000cb&code=0000000000000003.00000000000000cc00000000000000cd&execution=form&name=ann&value=1",
+        "1 1 post tab=[2/202]&code=[3/204]&execution=form&name=ann&value=1",
         "form",
     ),
     (
-        "1 1 post tab=0000000000000002.00000000000000ca00000000000000cb&code=0000000000000003.00000000000000cc00000000000000cd&execution=form&password=p&value=1",
+        "1 1 post tab=[2/202]&code=[3/204]&execution=form&password=p&value=1",
         "form",
     ),
     (
-        "1 1 post tab=0000000000000002.00000000000000ca00000000000000cb&code=0000000000000003.00000000000000cc00000000000000cd&execution=form&action=terms",
+        "1 1 post tab=[2/202]&code=[3/204]&execution=form&action=terms",
         "form",
     ),
     (
-        "1 1 post tab=0000000000000002.00000000000000ca00000000000000cb&code=0000000000000003.00000000000000cc00000000000000cd&execution=form&name=ann&action=terms",
+        "1 1 post tab=[2/202]&code=[3/204]&execution=form&name=ann&action=terms",
         "form",
     ),
     (
-        "1 1 post tab=0000000000000002.00000000000000ca00000000000000cb&code=0000000000000003.00000000000000cc00000000000000cd&execution=form&execution=form",
+        "1 1 post tab=[2/202]&code=[3/204]&execution=form&execution=form",
         "form",
     ),
     (
-        "1 1 post tab=0000000000000002.00000000000000ca00000000000000cb&code=0000000000000003.00000000000000cc00000000000000cd&execution=form&execution=form&name=a+b",
+        "1 1 post tab=[2/202]&code=[3/204]&execution=form&execution=form&name=a+b",
         "execution",
     ),
     (
-        "1 1 post tab=0000000000000002.00000000000000ca00000000000000cb&code=0000000000000003.00000000000000cc00000000000000cd&execution=form&execution=form&password=",
+        "1 1 post tab=[2/202]&code=[3/204]&execution=form&execution=form&password=",
         "execution",
     ),
     (
-        "1 1 post tab=0000000000000002.00000000000000ca00000000000000cb&code=0000000000000003.00000000000000cc00000000000000cd&execution=Form&name=ann",
+        "1 1 post tab=[2/202]&code=[3/204]&execution=Form&name=ann",
         "execution",
     ),
     (
-        "1 1 post tab=0000000000000002.00000000000000ca00000000000000cb&code=0000000000000003.00000000000000cc00000000000000cd&execution=Form&password=p",
+        "1 1 post tab=[2/202]&code=[3/204]&execution=Form&password=p",
         "execution",
     ),
     (
-        "1 1 post tab=0000000000000002.00000000000000ca00000000000000cb&code=0000000000000003.00000000000000cc00000000000000cd&execution=foRm&name=ann&password=p",
+        "1 1 post tab=[2/202]&code=[3/204]&execution=foRm&name=ann&password=p",
         "execution",
     ),
     (
-        "1 1 post tab=0000000000000002.00000000000000ca00000000000000cb&code=0000000000000003.00000000000000cc00000000000000cd&execution=&name=ann",
+        "1 1 post tab=[2/202]&code=[3/204]&execution=&name=ann",
         "execution",
     ),
     (
-        "1 1 post tab=0000000000000002.00000000000000ca00000000000000cb&code=0000000000000003.00000000000000cc00000000000000cd&execution=-form&name=ann",
+        "1 1 post tab=[2/202]&code=[3/204]&execution=-form&name=ann",
         "execution",
     ),
     (
-        "1 1 post tab=0000000000000002.00000000000000ca00000000000000cb&code=0000000000000003.00000000000000cc00000000000000cd&execution=a+b&password=p",
+        "1 1 post tab=[2/202]&code=[3/204]&execution=a+b&password=p",
         "execution",
     ),
     (
-        "1 1 post tab=0000000000000002.00000000000000ca00000000000000cb&code=0000000000000003.00000000000000cc00000000000000cd&execution=form%ff&name=ann",
+        "1 1 post tab=[2/202]&code=[3/204]&execution=form%ff&name=ann",
+        "execution",
+    ),
+    // A name of 65 bytes.
+    (
+        "1 1 post tab=[2/202]&code=[3/204]&execution=eeeeeeeeeeeeeeeeeeeeeeeeeeeeeeeeeeeeeeeeeeeeeeeeeeeeeeeeeeeeeeeee&name=ann",
         "execution",
     ),
     (
-        "1 1 post tab=0000000000000002.00000000000000ca00000000000000cb&code=0000000000000003.00000000000000cc00000000000000cd&execution=eeeeeeeeeeeeeeeeeeeeeeeeeeeeeeeeeeeeeeeeeeeeeeeeeeeeeeeeeeeeeeeee&name=ann",
-        "execution",
-    ),
-    (
-        "1 1 post tab=0000000000000002.00000000000000ca00000000000000cb&code=0000000000000003.00000000000000cc00000000000000cd&execution=otp&name=a+b",
+        "1 1 post tab=[2/202]&code=[3/204]&execution=otp&name=a+b",
         "name",
     ),
     (
-        "1 1 post tab=0000000000000002.00000000000000ca00000000000000cb&code=0000000000000003.00000000000000cc00000000000000cd&execution=form&name=",
+        "1 1 post tab=[2/202]&code=[3/204]&execution=form&name=",
         "name",
     ),
     (
-        "1 1 post tab=0000000000000002.00000000000000ca00000000000000cb&code=0000000000000003.00000000000000cc00000000000000cd&execution=form&name=ann&name=ann",
+        "1 1 post tab=[2/202]&code=[3/204]&execution=form&name=ann&name=ann",
         "name",
     ),
     (
-        "1 1 post tab=0000000000000002.00000000000000ca00000000000000cb&code=0000000000000003.00000000000000cc00000000000000cd&execution=form&password=",
+        "1 1 post tab=[2/202]&code=[3/204]&execution=form&password=",
         "password",
     ),
     (
-        "1 1 post tab=0000000000000002.00000000000000ca00000000000000cb&code=0000000000000003.00000000000000cc00000000000000cd&execution=otp&password=a%ffb",
+        "1 1 post tab=[2/202]&code=[3/204]&execution=otp&password=a%ffb",
         "password",
     ),
     (
-        "1 1 post tab=0000000000000002.00000000000000ca00000000000000cb&code=0000000000000003.00000000000000cc00000000000000cd&execution=form&password=p&password=p",
+        "1 1 post tab=[2/202]&code=[3/204]&execution=form&password=p&password=p",
         "password",
     ),
     (
-        "1 1 post root=0000000000000001.00000000000000c800000000000000c9&root=0000000000000001.00000000000000c800000000000000c9&execution=form&name=ann",
+        "1 1 post root=[1/200]&root=[1/200]&execution=form&name=ann",
         "root",
     ),
     ("1 1 post execution=form&name=ann", "tab"),
-    (
-        "1 1 post tab=0000000000000002.00000000000000ca00000000000000cb&execution=Form&name=a+b",
-        "code",
-    ),
+    ("1 1 post tab=[2/202]&execution=Form&name=a+b", "code"),
     ("1 1 user-add name=ann&password=%ff", "password"),
     ("1 1 user-add name=ann&password=p&password=p", "password"),
+    // A password of 257 bytes.
     (
         "1 1 user-add name=ann&password=ppppppppppppppppppppppppppppppppppppppppppppppppppppppppppppppppppppppppppppppppppppppppppppppppppppppppppppppppppppppppppppppppppppppppppppppppppppppppppppppppppppppppppppppppppppppppppppppppppppppppppppppppppppppppppppppppppppppppppppppppppppppppppppppppp",
         "password",
@@ -366,9 +465,10 @@ const MALFORMED_POSTS: [(&str, &str); 49] = [
 #[test]
 fn malformed_posts_name_their_first_place(rt: HostRuntime) -> Result<(), Fail> {
     for (line, place) in MALFORMED_POSTS {
+        let script = spelled(rt.alloc(), line)?;
         let text = format!(in rt.alloc(); "refused 1 BadForm at={place}\n")?;
         assert_eq!(rt;
-            text_of(&rt, rt.alloc(), line.as_bytes())?.as_slice(),
+            text_of(&rt, rt.alloc(), script.as_slice())?.as_slice(),
             text.as_bytes(),
             "{line}"
         );
@@ -376,39 +476,29 @@ fn malformed_posts_name_their_first_place(rt: HostRuntime) -> Result<(), Fail> {
     Ok(())
 }
 
-/// Malformed pages, and the first place that is malformed.
+/// Malformed pages, and the first place that is malformed. `[serial/word]` is an id.
 const MALFORMED_PAGES: [(&str, &str); 8] = [
     ("1 1 page", "tab"),
-    (
-        "1 1 page root=0000000000000001.00000000000000c800000000000000c9",
-        "tab",
-    ),
-    (
-        "1 1 page root=0000000000000001.00000000000000c800000000000000c9&tab=x",
-        "tab",
-    ),
+    ("1 1 page root=[1/200]", "tab"),
+    ("1 1 page root=[1/200]&tab=x", "tab"),
     ("1 1 page tab=", "tab"),
+    // An id has no capitals.
     (
         "1 1 page tab=0000000000000002.00000000000000CA00000000000000CB",
         "tab",
     ),
-    (
-        "1 1 page tab=0000000000000002.00000000000000ca00000000000000cb&tab=0000000000000002.00000000000000ca00000000000000cb",
-        "tab",
-    ),
-    (
-        "1 1 page tab=0000000000000002.00000000000000ca00000000000000cb&root=0000000000000001.00000000000000c800000000000000c9&root=0000000000000001.00000000000000c800000000000000c9",
-        "root",
-    ),
+    ("1 1 page tab=[2/202]&tab=[2/202]", "tab"),
+    ("1 1 page tab=[2/202]&root=[1/200]&root=[1/200]", "root"),
     ("1 1 page root=&root=&tab=x", "root"),
 ];
 
 #[test]
 fn malformed_pages_name_their_first_place(rt: HostRuntime) -> Result<(), Fail> {
     for (line, place) in MALFORMED_PAGES {
+        let script = spelled(rt.alloc(), line)?;
         let text = format!(in rt.alloc(); "refused 1 BadForm at={place}\n")?;
         assert_eq!(rt;
-            text_of(&rt, rt.alloc(), line.as_bytes())?.as_slice(),
+            text_of(&rt, rt.alloc(), script.as_slice())?.as_slice(),
             text.as_bytes(),
             "{line}"
         );
@@ -484,61 +574,60 @@ fn ask_words(alloc: Global, ask: &Ask) -> Result<Vec<u8>, Memory> {
     Ok(words)
 }
 
-/// Lines, and the words of what they ask.
+/// The words of what a line asks.
+fn words_asked(alloc: Global, line: &[u8]) -> Result<Vec<u8>, Memory> {
+    let asked = asked_of(alloc, line)?;
+    ask_words(alloc, &asked.ask)
+}
+
+/// Lines, and the words of what they ask. `[serial/word]` is an id.
 const ASKS: [(&str, &str); 11] = [
+    ("1 1 page tab=[2/202]", "page tab=[2/202]"),
     (
-        "1 1 page tab=0000000000000002.00000000000000ca00000000000000cb",
-        "page tab=0000000000000002.00000000000000ca00000000000000cb",
+        "1 1 page root=[1/200]&tab=[2/202]",
+        "page root=[1/200] tab=[2/202]",
     ),
     (
-        "1 1 page root=0000000000000001.00000000000000c800000000000000c9&tab=0000000000000002.00000000000000ca00000000000000cb",
-        "page root=0000000000000001.00000000000000c800000000000000c9 tab=0000000000000002.00000000000000ca00000000000000cb",
+        "1 1 page tab=[2/202]&root=[1/200]",
+        "page root=[1/200] tab=[2/202]",
+    ),
+    ("1 1 page root=zip&tab=[2/202]", "page tab=[2/202]"),
+    ("1 1 page root=&tab=[2/202]", "page tab=[2/202]"),
+    (
+        "1 1 page tab=[2/202]&code=x&execution=Form&execution=",
+        "page tab=[2/202]",
     ),
     (
-        "1 1 page tab=0000000000000002.00000000000000ca00000000000000cb&root=0000000000000001.00000000000000c800000000000000c9",
-        "page root=0000000000000001.00000000000000c800000000000000c9 tab=0000000000000002.00000000000000ca00000000000000cb",
+        "1 1 post root=[1/200]&tab=[2/202]&code=[3/204]&execution=form&name=Ann",
+        "post root=[1/200] tab=[2/202] code=[3/204] execution=form name=ann",
     ),
     (
-        "1 1 page root=zip&tab=0000000000000002.00000000000000ca00000000000000cb",
-        "page tab=0000000000000002.00000000000000ca00000000000000cb",
+        "1 1 post tab=[2/202]&code=[3/204]&execution=otp&password=Pw+1",
+        "post tab=[2/202] code=[3/204] execution=otp password=Pw 1",
     ),
     (
-        "1 1 page root=&tab=0000000000000002.00000000000000ca00000000000000cb",
-        "page tab=0000000000000002.00000000000000ca00000000000000cb",
+        "1 1 post root=zip&tab=[2/202]&code=[3/204]&execution=1.b_c@d-e&name=BOB&password=p",
+        "post tab=[2/202] code=[3/204] execution=1.b_c@d-e name=bob password=p",
     ),
     (
-        "1 1 page tab=0000000000000002.00000000000000ca00000000000000cb&code=x&execution=Form&execution=",
-        "page tab=0000000000000002.00000000000000ca00000000000000cb",
+        "1 1 post password=%C3%A9&name=9&execution=%66orm&code=[3/204]&tab=[2/202]&root=[1/200]",
+        "post root=[1/200] tab=[2/202] code=[3/204] execution=form name=9 password=\u{e9}",
     ),
+    // Names of 64 bytes.
     (
-        "1 1 post root=0000000000000001.00000000000000c800000000000000c9&tab=0000000000000002.00000000000000ca00000000000000cb&code=0000000000000003.00000000000000cc00000000000000cd&execution=form&name=Ann",
-        "post root=0000000000000001.00000000000000c800000000000000c9 tab=0000000000000002.00000000000000ca00000000000000cb code=0000000000000003.00000000000000cc00000000000000cd execution=form name=ann",
-    ),
-    (
-        "1 1 post tab=0000000000000002.00000000000000ca00000000000000cb&code=0000000000000003.00000000000000cc00000000000000cd&execution=otp&password=Pw+1",
-        "post tab=0000000000000002.00000000000000ca00000000000000cb code=0000000000000003.00000000000000cc00000000000000cd execution=otp password=Pw 1",
-    ),
-    (
-        "1 1 post root=zip&tab=0000000000000002.00000000000000ca00000000000000cb&code=0000000000000003.00000000000000cc00000000000000cd&execution=1.b_c@d-e&name=BOB&password=p",
-        "post tab=0000000000000002.00000000000000ca00000000000000cb code=0000000000000003.00000000000000cc00000000000000cd execution=1.b_c@d-e name=bob password=p",
-    ),
-    (
-        "1 1 post password=%C3%A9&name=9&execution=%66orm&code=0000000000000003.00000000000000cc00000000000000cd&tab=0000000000000002.00000000000000ca00000000000000cb&root=0000000000000001.00000000000000c800000000000000c9",
-        "post root=0000000000000001.00000000000000c800000000000000c9 tab=0000000000000002.00000000000000ca00000000000000cb code=0000000000000003.00000000000000cc00000000000000cd execution=form name=9 password=\u{e9}",
-    ),
-    (
-        "1 1 post tab=0000000000000002.00000000000000ca00000000000000cb&code=0000000000000003.00000000000000cc00000000000000cd&execution=eeeeeeeeeeeeeeeeeeeeeeeeeeeeeeeeeeeeeeeeeeeeeeeeeeeeeeeeeeeeeeee&name=nnnnnnnnnnnnnnnnnnnnnnnnnnnnnnnnnnnnnnnnnnnnnnnnnnnnnnnnnnnnnnnn",
-        "post tab=0000000000000002.00000000000000ca00000000000000cb code=0000000000000003.00000000000000cc00000000000000cd execution=eeeeeeeeeeeeeeeeeeeeeeeeeeeeeeeeeeeeeeeeeeeeeeeeeeeeeeeeeeeeeeee name=nnnnnnnnnnnnnnnnnnnnnnnnnnnnnnnnnnnnnnnnnnnnnnnnnnnnnnnnnnnnnnnn",
+        "1 1 post tab=[2/202]&code=[3/204]&execution=eeeeeeeeeeeeeeeeeeeeeeeeeeeeeeeeeeeeeeeeeeeeeeeeeeeeeeeeeeeeeeee&name=nnnnnnnnnnnnnnnnnnnnnnnnnnnnnnnnnnnnnnnnnnnnnnnnnnnnnnnnnnnnnnnn",
+        "post tab=[2/202] code=[3/204] execution=eeeeeeeeeeeeeeeeeeeeeeeeeeeeeeeeeeeeeeeeeeeeeeeeeeeeeeeeeeeeeeee name=nnnnnnnnnnnnnnnnnnnnnnnnnnnnnnnnnnnnnnnnnnnnnnnnnnnnnnnnnnnnnnnn",
     ),
 ];
 
 #[test]
 fn lines_ask_what_their_pairs_say(rt: HostRuntime) -> Result<(), Fail> {
     for (line, words) in ASKS {
-        let asked = asked_of(rt.alloc(), line.as_bytes())?;
+        let script = spelled(rt.alloc(), line)?;
+        let words = spelled(rt.alloc(), words)?;
         assert_eq!(rt;
-            ask_words(rt.alloc(), &asked.ask)?.as_slice(),
-            words.as_bytes(),
+            words_asked(rt.alloc(), script.as_slice())?.as_slice(),
+            words.as_slice(),
             "{line}"
         );
     }
@@ -589,10 +678,11 @@ fn long_lines_have_no_head(rt: HostRuntime) -> Result<(), Fail> {
         ),
         (filled(rt.alloc(), b"#", 300_000)?, ""),
     ];
-    for (script, text) in &cases {
+    for (i, (script, text)) in cases.iter().enumerate() {
         assert_eq!(rt;
             text_of(&rt, rt.alloc(), script.as_slice())?.as_slice(),
-            text.as_bytes()
+            text.as_bytes(),
+            "case {i}"
         );
     }
     Ok(())
@@ -611,26 +701,39 @@ const OUTSIDE: [&[&str]; 5] = [
 fn words_outside_the_grammar_read_nothing(rt: HostRuntime) -> Result<(), Fail> {
     for words in OUTSIDE {
         let run = run_on(rt.alloc(), words, b"x\n", &[1], &[])?;
-        assert_eq!(rt; run.status, 2);
-        assert_eq!(rt; run.text.as_slice(), b"error 2 usage\n".as_slice());
+        assert_eq!(rt; run.status, 2, "{words:?}");
+        assert_eq!(rt;
+            run.text.as_slice(),
+            b"error 2 usage\n".as_slice(),
+            "{words:?}"
+        );
         let run = run_on(rt.alloc(), words, b"x\n", &[], &[1])?;
-        assert_eq!(rt; run.status, 5);
-        assert!(rt; run.text.is_empty());
+        assert_eq!(rt; run.status, 5, "{words:?}");
+        assert!(rt; run.text.is_empty(), "{words:?}");
     }
     Ok(())
 }
 
 /// Three lines, the last of which has no newline.
-const THREE: &[u8] = b"1 1 user-add name=ann\nx\n2 2 user-add name=ann";
+const THREE: &[u8] = b"1 1 user-add name=ann
+x
+2 2 user-add name=ann";
 
 const USER: &str = "told user name=ann id=1\n";
 
-const USER_HEAD: &str = "told user name=ann id=1\nrefused 1 BadForm at=head\n";
+const USER_HEAD: &str = "told user name=ann id=1
+refused 1 BadForm at=head
+";
 
-const USER_HEAD_TAKEN: &str =
-    "told user name=ann id=1\nrefused 1 BadForm at=head\nrefused 2 AdminRefused rule=UserTaken\n";
+const USER_HEAD_TAKEN: &str = "told user name=ann id=1
+refused 1 BadForm at=head
+refused 2 AdminRefused rule=UserTaken
+";
 
-const USER_HEAD_READ: &str = "told user name=ann id=1\nrefused 1 BadForm at=head\nerror 4 read\n";
+const USER_HEAD_READ: &str = "told user name=ann id=1
+refused 1 BadForm at=head
+error 4 read
+";
 
 /// The reads and the writes that fail, the status, and what is written. One read takes the whole
 /// script, and the next finds its end.
@@ -649,8 +752,12 @@ const FAULTS: [(&[u64], &[u64], u8, &str); 8] = [
 fn faults_end_the_run_where_they_are_met(rt: HostRuntime) -> Result<(), Fail> {
     for (reads, puts, status, text) in FAULTS {
         let run = run_on(rt.alloc(), &["replay"], THREE, reads, puts)?;
-        assert_eq!(rt; run.status, status);
-        assert_eq!(rt; run.text.as_slice(), text.as_bytes());
+        assert_eq!(rt; run.status, status, "reads {reads:?}, puts {puts:?}");
+        assert_eq!(rt;
+            run.text.as_slice(),
+            text.as_bytes(),
+            "reads {reads:?}, puts {puts:?}"
+        );
     }
     Ok(())
 }
