@@ -1,6 +1,0 @@
-use Rattle.std.proofs.Common.{◌≡◌, ◌++◌, ◌-◌, take}
-use Rattle.std.specs.Prelude.{replicate}
-use Rattle.facts.proofs.password_hash.padded.Given as goal
-
-abbrev pub invariant-bytes : goal.invariant-bytes
-invariant-bytes l = l.place ≡ take l.i l.text ++ replicate (64 - l.i) 0

@@ -1,0 +1,2 @@
+pub mod RealmLemmas
+pub mod RealmRules
