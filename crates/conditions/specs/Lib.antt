@@ -1,3 +1,4 @@
+pub mod Secrets
 pub mod Setup
 pub mod Setups
 pub mod Truth

@@ -1,9 +1,9 @@
 -- What a user has set up.
 use Rattle.std.specs.Prelude.{Bool, true, false, not, ◌&&◌, ◌||◌, if◌then◌else◌, List, map, Option, Some, None}
 use Rattle.std.specs.List.{list_all, list_any}
+use Rattle.std.specs.Option.{option_map_or}
 use Rattle.flow_tree.specs.declared.exec.Requirement.{Requirement}
 use Rattle.flow_tree.specs.declared.exec.Kind.{Kind}
-use Rattle.flow_tree.specs.declared.exec.Kind.TheVariants.{Allow, Deny, Cookie, Username, Password, Form, Otp, Recovery}
 use Rattle.flow_tree.specs.declared.exec.Exec.{Exec, Exec-F, fold-Exec}
 use Rattle.flow_tree.specs.declared.exec.Body.TheOpen.{Body-F}
 use Rattle.flow_tree.specs.Faults.{is_condition}
@@ -11,17 +11,11 @@ use Rattle.flow_tree.specs.Flow.{is_required, is_alternative}
 use Rattle.flow_tree.specs.Places.{shape_of}
 use Rattle.conditions.specs.declared.account.AccountView.{AccountView}
 use Rattle.conditions.specs.declared.setup.Setup.{Setup}
+use Rattle.conditions.specs.Secrets.{secret_of, has_secret}
 
--- the user has what an authenticator of this kind asks for
+-- the user has the secret that an authenticator of this kind rests on, if it rests on one
 abbrev pub kind_configured : AccountView → Kind → Bool
-kind_configured a Password = a.password
-kind_configured a Form = a.password
-kind_configured a Otp = a.otp
-kind_configured a Recovery = a.recovery
-kind_configured a Allow = true
-kind_configured a Deny = true
-kind_configured a Cookie = true
-kind_configured a Username = true
+kind_configured a kind = option_map_or (has_secret a) (secret_of kind) true
 
 -- each required one is configured, or with none some alternative is
 abbrev pub configured_over : List Setup → Bool

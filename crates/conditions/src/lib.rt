@@ -8,13 +8,15 @@ mod account;
 mod laws;
 mod level;
 mod role;
+mod secret_kind;
 mod setup;
 
 pub use account::AccountView;
 pub use laws::configured_law;
 pub use level::{LevelView, fresh};
 pub use role::role_true;
-pub use setup::configured;
+pub use secret_kind::{SecretKind, secret_of};
+pub use setup::{configured, kind_configured};
 
 #[cfg(test)]
 mod tests;

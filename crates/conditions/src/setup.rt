@@ -4,6 +4,7 @@ ghost use Rattle.conditions.specs.Setup.{configured, kind_configured, step_setup
 ghost use Rattle.conditions.specs.Setups.{setups_of, with_setup, are_configured};
 
 use crate::account::AccountView;
+use crate::secret_kind::secret_of;
 use flow_tree::{Body, Exec, Kind, Requirement};
 
 /// What an execution is to a condition beside it.
@@ -72,14 +73,13 @@ impl Setups {
     }
 }
 
-fn kind_configured(account: &AccountView, kind: Kind) -> bool
-    ensures { result ≡ kind_configured account.now kind }
+/// Whether the user has set up what an authenticator of this kind rests on.
+pub fn kind_configured(account: &AccountView, kind: Kind) -> bool
+    ensures value { result ≡ kind_configured account.now kind }
 {
-    match kind {
-        Kind::Password | Kind::Form => account.password,
-        Kind::Otp => account.otp,
-        Kind::Recovery => account.recovery,
-        Kind::Allow | Kind::Deny | Kind::Cookie | Kind::Username => true,
+    match secret_of(kind) {
+        Some(secret) => account.has(secret),
+        None => true,
     }
 }
 

@@ -1,23 +1,14 @@
 -- The accepted posts that count.
-use Rattle.std.specs.Prelude.{ℕ, Bool, true, false, not, ◌&&◌, ◌||◌, ◌==◌, List, Option, Some, None, fold}
+use Rattle.std.specs.Prelude.{ℕ, Bool, false, not, ◌&&◌, ◌||◌, ◌==◌, List, [], ◌∷◌, Option, Some, None}
+use Rattle.std.specs.List.{list_any}
 use Rattle.std.specs.Str.{bytes_eq}
 use Rattle.login_base.specs.IdText.{same_id}
 use Rattle.login_base.specs.declared.id.TabKey.{TabKey}
 use Rattle.login_base.specs.declared.id.UserId.{UserId}
+use Rattle.conditions.specs.declared.secret_kind.SecretKind.{SecretKind}
+use Rattle.conditions.specs.Secrets.{same_secret}
 use Rattle.facts.specs.declared.fact.Fact.{Fact}
-use Rattle.facts.specs.declared.fact.Fact.TheVariants as facts
-use Rattle.flow_tree.specs.declared.exec.Kind.{Kind}
-use Rattle.flow_tree.specs.declared.exec.Kind.TheVariants as kinds
-use Rattle.facts.specs.declared.secret.SecretKind.{SecretKind}
-use Rattle.facts.specs.declared.secret.SecretKind.TheVariants as secrets
-
--- a form and a password rest on the user's password, a one-time code on its secret, a recovery code on the list
-abbrev pub rests_on : Kind → SecretKind → Bool
-rests_on kinds.Password secrets.Password = true
-rests_on kinds.Form secrets.Password = true
-rests_on kinds.Otp secrets.Otp = true
-rests_on kinds.Recovery secrets.Recovery = true
-rests_on kind secret = false
+use Rattle.facts.specs.declared.fact.Fact.TheVariants as events
 
 -- the change was made by this tab
 abbrev pub is_by : TabKey → Option TabKey → Bool
@@ -25,20 +16,27 @@ is_by tab None = false
 is_by tab (Some by) = same_id by.0 tab.0
 
 -- it is an accepted post of this user for the execution in the tab
-abbrev pub is_passed : TabKey → UserId → List ℕ → TabKey → UserId → List ℕ → Bool
-is_passed tab user id of by execution = same_id of.0 tab.0 && by.0 == user.0 && bytes_eq execution id
+abbrev pub is_passed : TabKey → UserId → List ℕ → Fact → Bool
+is_passed tab user id (events.Passed of execution by kind credential moment) = same_id of.0 tab.0 && by.0 == user.0 && bytes_eq execution id
+is_passed tab user id event = false
 
--- it is a change, by anything but this tab, of the user's secret on which this kind rests
-abbrev pub is_voided : TabKey → UserId → Kind → UserId → SecretKind → Option TabKey → Bool
-is_voided tab user kind of secret by = of.0 == user.0 && rests_on kind secret && not (is_by tab by)
+-- the secret on which an accepted post rests, if on any
+abbrev pub rests_on : Fact → Option SecretKind
+rests_on (events.Passed of execution by kind credential moment) = kind
+rests_on event = None
 
--- A user's accepted post for an execution counts in its tab from then on, until a secret of the user that it rests on
--- is changed by anything but this tab.
-abbrev pub counts_after : TabKey → UserId → List ℕ → Kind → Bool → Fact → Bool
-counts_after tab user id kind counts (facts.Passed of execution by own credential moment) = counts || is_passed tab user id of by execution
-counts_after tab user id kind counts (facts.SecretSet of secret serial value by) = counts && not (is_voided tab user kind of secret by)
-counts_after tab user id kind counts fact = counts
+abbrev pub is_secret : Option SecretKind → SecretKind → Bool
+is_secret None changed = false
+is_secret (Some kind) changed = same_secret kind changed
 
--- an accepted post of this user for the execution counts in the tab
-unfoldable pub has_evidence : TabKey → UserId → List ℕ → Kind → List Fact → Bool
-has_evidence tab user id kind facts = fold (counts_after tab user id kind) false facts
+-- it changes the user's secret of this kind, by anything but this tab
+abbrev pub voids : TabKey → UserId → Option SecretKind → Fact → Bool
+voids tab user kind (events.SecretSet of changed serial secret by) = of.0 == user.0 && is_secret kind changed && not (is_by tab by)
+voids tab user kind event = false
+
+-- a post of the user for the execution was accepted in the tab, and no later change of the secret on which it rests,
+-- by anything but the tab, voids it
+unfoldable pub has_evidence : TabKey → UserId → List ℕ → List Fact → Bool
+has_evidence tab user id [] = false
+has_evidence tab user id (fact ∷ later) =
+    (is_passed tab user id fact && not (list_any (voids tab user (rests_on fact)) later)) || has_evidence tab user id later

@@ -1,16 +1,19 @@
 -- A list of facts, and the facts that wait to join it.
-use Rattle.std.specs.Prelude.{◌≡◌, ℕ, List}
+use Rattle.std.specs.Prelude.{◌≡◌, ℕ, List, Option}
+use Rattle.realm_data.specs.declared.realm_parts.RealmParts.{RealmParts}
 use Rattle.facts.specs.declared.fact.Fact.{Fact}
-use Rattle.facts.specs.Realms.{last_version}
+use Rattle.facts.specs.Places.{last_of}
+use Rattle.facts.specs.Realms.{current_realm, last_version, realm_put}
 use Rattle.facts.specs.Serials.{last_tab_serial, last_stored_serial, last_known_serial}
 
 pub record Kept : Type 0 where
   pub list : List Fact
   pub waiting : List Fact
 
--- the serials and the version are those of the list
-pub record IsCounted (list : List Fact) (tabs stored known number : ℕ) : Type 0 where
+-- the serials, the version and the realm are those of the list
+pub record IsCounted (list : List Fact) (tabs stored known number : ℕ) (put : Option RealmParts) : Type 0 where
   pub tab_serial : tabs ≡ last_tab_serial list
   pub stored_serial : stored ≡ last_stored_serial list
   pub known_serial : known ≡ last_known_serial list
   pub version : number ≡ last_version list
+  pub realm : put ≡ current_realm list

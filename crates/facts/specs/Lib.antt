@@ -2,17 +2,11 @@ pub mod Accounts
 pub mod Evidence
 pub mod Kept
 pub mod Moments
-pub mod Padding
-pub mod PasswordHash
 pub mod Passwords
 pub mod Places
 pub mod Ranges
-pub mod Realm
-pub mod RealmBuilt
-pub mod RealmBuiltin
 pub mod Realms
 pub mod Secrets
 pub mod Serials
 pub mod Solved
 pub mod Tabs
-pub mod Words

@@ -7,7 +7,7 @@ use Rattle.login_base.specs.declared.id.SessionId.{SessionId}
 use Rattle.login_base.specs.declared.id.TabKey.{TabKey}
 use Rattle.login_base.specs.declared.id.UserId.{UserId}
 use Rattle.facts.specs.declared.fact.Fact.{Fact}
-use Rattle.facts.specs.declared.fact.Fact.TheVariants as facts
+use Rattle.facts.specs.declared.fact.Fact.TheVariants as events
 use Rattle.facts.specs.declared.tabs.Opening.{Opening}
 use Rattle.facts.specs.declared.tabs.RootSession.{RootSession}
 use Rattle.facts.specs.declared.tabs.TabState.{TabState}
@@ -31,10 +31,10 @@ ended_by session (Some own) = if same_id own.session.0 session.0 then None else 
 
 -- the last session of the root, unless it was ended
 abbrev pub session_after : RootKey → Option RootSession → Fact → Option RootSession
-session_after root own (facts.Session session of user moment idle most) =
+session_after root own (events.Session session of user moment idle most) =
     if is_root root of then Some (record { session = session; user = user; opened = moment; seen = moment; idle = idle; max = most }) else own
-session_after root own (facts.Seen session moment) = seen_at session moment own
-session_after root own (facts.SessionEnd session) = ended_by session own
+session_after root own (events.Seen session moment) = seen_at session moment own
+session_after root own (events.SessionEnd session) = ended_by session own
 session_after root own fact = own
 
 -- it was used less than `idle` seconds ago, and began less than `max` seconds ago
@@ -49,24 +49,25 @@ live_among now (Some own) = if is_live now own then Some own else None
 
 -- with what it was opened in this root
 abbrev pub opening_after : RootKey → TabKey → Option Opening → Fact → Option Opening
-opening_after root tab own (facts.Opened of opened version level life moment) =
-    if same_id opened.0 tab.0 && same_id of.0 root.0 then Some (record { version = version; level = level }) else own
+opening_after root tab own (events.Opened of opened version level life moment) =
+    if same_id opened.0 tab.0 && same_id of.0 root.0
+    then Some (record { version = version; level = level; life = life; moment = moment }) else own
 opening_after root tab own fact = own
 
 -- the code that was shown last in it
 abbrev pub code_after : TabKey → Option Code → Fact → Option Code
-code_after tab own (facts.Rendered of code action offer) = if same_id of.0 tab.0 then Some code else own
+code_after tab own (events.Rendered of code action offer) = if same_id of.0 tab.0 then Some code else own
 code_after tab own fact = own
 
 -- the user that was named last in it
 abbrev pub named_after : TabKey → Option UserId → Fact → Option UserId
-named_after tab own (facts.Named of user) = if same_id of.0 tab.0 then Some user else own
+named_after tab own (events.Named of user) = if same_id of.0 tab.0 then Some user else own
 named_after tab own fact = own
 
 -- it has completed after its opening
 abbrev pub completed_after : TabKey → Bool → Fact → Bool
-completed_after tab own (facts.Opened root of version level life moment) = if same_id of.0 tab.0 then false else own
-completed_after tab own (facts.Completed of user session moment) = if same_id of.0 tab.0 then true else own
+completed_after tab own (events.Opened root of version level life moment) = if same_id of.0 tab.0 then false else own
+completed_after tab own (events.Completed of user session moment) = if same_id of.0 tab.0 then true else own
 completed_after tab own fact = own
 
 abbrev pub tab_after : RootKey → TabKey → TabState → Fact → TabState

@@ -1,56 +1,9 @@
 ghost use Rattle.std.specs.Prelude.{◌≡◌, Some, None, if◌then◌else◌};
-ghost use Rattle.facts.specs.Ranges.{is_otp_key, is_life};
+ghost use Rattle.facts.specs.Ranges.{is_life};
 
-use crate::action::Action;
-use crate::realm::Realm;
-use login_base::{Duplicate, Memory, Name, Sequence, SessionId};
-use std::alloc::Global;
+use login_base::{Name, Sequence, SessionId};
+use realm_data::{Action, OtpSecret, Realm};
 use std::marker::Model;
-
-/// The key of a TOTP generator (RFC 6238): 10 to 64 bytes.
-#[derive(Debug, Drop)]
-pub struct OtpSecret {
-    key: Sequence<u8>,
-}
-
-impl Model for OtpSecret {
-    ghost use Rattle.std.specs.Prelude.{ℕ, List, IsTrue};
-    ghost use Rattle.facts.specs.Ranges.{is_otp_key};
-
-    ghost Value = { List ℕ };
-
-    ghost view = { λ s. s.key };
-
-    ghost invariant = { λ s. IsTrue (is_otp_key s.key) };
-}
-
-impl OtpSecret {
-    /// The secret of a key, or none where its length is out of the range.
-    pub fn new(key: Sequence<u8>) -> Option<OtpSecret>
-        ensures value { result ≡ (if is_otp_key key then Some key else None) }
-    {
-        if key.len() >= 10 && key.len() <= 64 {
-            Some(OtpSecret { key })
-        } else {
-            None
-        }
-    }
-
-    /// The key, 10 to 64 bytes.
-    pub fn key(&self) -> &[u8]
-        ensures key { result.now ≡ self.now }
-    {
-        self.key.as_slice()
-    }
-}
-
-impl Duplicate for OtpSecret {
-    fn duplicate(&self, alloc: Global) -> Result<OtpSecret, Memory> {
-        Ok(OtpSecret {
-            key: self.key.duplicate(alloc)?,
-        })
-    }
-}
 
 /// How long a token lives: 1 to 31,536,000 seconds.
 #[derive(Clone, Copy, Debug, PartialEq, Eq)]
@@ -100,6 +53,17 @@ pub enum TokenAction {
     UpdatePassword,
 }
 
+/// An account to be added, with the actions that its first login asks. The password is in bytes,
+/// and empty once it is hashed.
+#[derive(Debug, Drop)]
+pub struct NewUser {
+    pub name: Name,
+    pub password: Option<Sequence<u8>>,
+    pub otp: Option<OtpSecret>,
+    pub roles: Sequence<Name>,
+    pub actions: Sequence<Action>,
+}
+
 /// What an administrator asks.
 #[derive(Debug, Drop)]
 pub enum AdminVerb {
@@ -107,15 +71,8 @@ pub enum AdminVerb {
     RealmPut {
         realm: Option<Realm>,
     },
-    /// Adds an account, with the actions that its first login asks. The password is in bytes, and
-    /// empty once it is hashed.
-    UserAdd {
-        name: Name,
-        password: Option<Sequence<u8>>,
-        otp: Option<OtpSecret>,
-        roles: Sequence<Name>,
-        actions: Sequence<Action>,
-    },
+    /// Adds an account.
+    UserAdd(NewUser),
     /// Puts these roles in the place of all that the user had.
     Roles {
         name: Name,

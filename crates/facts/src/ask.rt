@@ -50,6 +50,24 @@ pub enum Access {
     Key([u8; 32]),
 }
 
+/// A tab to be opened for a client, in this root or a new one, for at least the level of the name
+/// `acr` (OpenID Connect Core 1.0, `acr_values`).
+#[derive(Debug, Drop)]
+pub struct NewTab {
+    pub root: Option<RootKey>,
+    pub client: Name,
+    pub acr: Option<Name>,
+}
+
+/// A form that is posted to a tab, with the code of the page that it stood on.
+#[derive(Debug, Drop)]
+pub struct Post {
+    pub root: Option<RootKey>,
+    pub tab: TabKey,
+    pub code: Code,
+    pub form: Form,
+}
+
 /// What is asked of the service.
 #[derive(Debug, Drop)]
 pub enum Ask {
@@ -57,25 +75,12 @@ pub enum Ask {
     Bad {
         at: Name,
     },
-    /// Opens a tab of a client, in this root or a new one, for at least the level of the name `acr`
-    /// (OpenID Connect Core 1.0, `acr_values`).
-    NewTab {
-        root: Option<RootKey>,
-        client: Name,
-        acr: Option<Name>,
-    },
+    /// Opens a tab.
+    NewTab(NewTab),
     /// Shows a tab's page again.
-    Page {
-        root: Option<RootKey>,
-        tab: TabKey,
-    },
-    /// Posts a form, with the code of the page that it stood on.
-    Post {
-        root: Option<RootKey>,
-        tab: TabKey,
-        code: Code,
-        form: Form,
-    },
+    Page { root: Option<RootKey>, tab: TabKey },
+    /// Posts a form.
+    Post(Post),
     /// Follows a token of `verify_email`.
     Verify {
         key: TokenKey,

@@ -1,12 +1,16 @@
-ghost use Rattle.std.specs.Prelude.{◌≡◌, ◌+◌, ◌<◌, [], ◌++◌, length, Some, IfOk, OnOk, OnErr, slice_get};
-ghost use Rattle.facts.specs.Realms.{last_version};
+ghost use Rattle.std.specs.Prelude.{◌≡◌, ◌+◌, ◌<◌, [], ◌++◌, length, Some, None, IfOk, OnOk, OnErr, slice_get};
+ghost use Rattle.std.specs.Option.{option_copied, option_or};
+ghost use Rattle.facts.specs.Places.{last_of};
+ghost use Rattle.facts.specs.Realms.{current_realm, last_version, realm_put};
 ghost use Rattle.facts.specs.Serials.{last_tab_serial, last_stored_serial, last_known_serial};
 
+use crate::counters::{KnownSerial, StoredSerial, TabSerial, Version};
 use crate::fact::Fact;
-use crate::realms::Version;
-use crate::scan::fold_in;
-use crate::serials::{KnownSerial, StoredSerial, TabSerial};
+use crate::fold::fold_in;
+use crate::hold::last_held_in;
+use crate::realm_put::RealmPut;
 use login_base::{Duplicate, Memory, Steps};
+use realm_data::Realm;
 use std::alloc::Global;
 use std::marker::Model;
 use std::sync::ledger::Ledger;
@@ -22,15 +26,21 @@ pub struct Chronicle {
     stored_serial: u64,
     /// The greatest serial of a root or a tab.
     known_serial: u64,
-    /// The version of the last realm.
+    /// The version of the realm in force.
     version: u64,
+    /// A copy of the realm in force, and one of the realm that waits.
+    realm: Option<Realm>,
+    waiting_realm: Option<Realm>,
 }
 
 impl Model for Chronicle {
     ghost use Rattle.std.specs.Prelude.{◌≤◌, ◌+◌, vec_len, vec_capacity};
     ghost use Rattle.std.specs.Coded.{codes};
     ghost use Rattle.flow_tree.specs.contracts.exec.Exec as exec;
+    ghost use Rattle.std.specs.Prelude.{◌≡◌};
     ghost use Rattle.facts.specs.Kept.{Kept, IsCounted};
+    ghost use Rattle.facts.specs.Places.{last_of};
+    ghost use Rattle.facts.specs.Realms.{realm_put};
 
     ghost Value = { Kept };
 
@@ -38,7 +48,7 @@ impl Model for Chronicle {
 
     ghost view = { λ c. record { list = c.list.items; waiting = c.waiting.items } };
 
-    ghost invariant = { λ c. (vec_len c.list + vec_len c.waiting ≤ vec_capacity c.list) × IsCounted c.list.items c.tab_serial c.stored_serial c.known_serial c.version };
+    ghost invariant = { λ c. (vec_len c.list + vec_len c.waiting ≤ vec_capacity c.list) × IsCounted c.list.items c.tab_serial c.stored_serial c.known_serial c.version c.realm × (c.waiting_realm ≡ last_of realm_put c.waiting.items) };
 }
 
 /// Copies of the facts.
@@ -52,9 +62,29 @@ fn copies(alloc: Global, facts: &[Fact]) -> Result<Vec<Fact>, Memory>
     Ok(copies)
 }
 
+/// A copy of the realm that these facts put last.
+fn put_realm(alloc: Global, facts: &[Fact]) -> Result<Option<Realm>, Memory>
+    ensures { IfOk result (λ realm. realm ≡ last_of realm_put facts.now) }
+{
+    match last_held_in(facts, &RealmPut) {
+        Some(realm) => Ok(Some(realm.duplicate(alloc)?)),
+        None => Ok(None),
+    }
+}
+
+/// Takes the newer realm in the place of the one before, where there is one.
+fn renew(realm: &mut Option<Realm>, newer: &mut Option<Realm>)
+    ensures realm { realm.new ≡ option_or newer.old realm.old }
+    ensures newer { newer.new ≡ None }
+{
+    if newer.is_some() {
+        *realm = newer.take();
+    }
+}
+
 impl Chronicle {
     /// An empty list, which takes no memory.
-    #[tactic(auto, unfolding(crate::specs::Serials::last_tab_serial, crate::specs::Serials::last_stored_serial, crate::specs::Serials::last_known_serial, crate::specs::Realms::last_version))]
+    #[tactic(auto, unfolding(crate::specs::Serials::last_tab_serial, crate::specs::Serials::last_stored_serial, crate::specs::Serials::last_known_serial, crate::specs::Realms::last_version, crate::specs::Realms::current_realm))]
     pub fn make(alloc: Global) -> Chronicle
         ensures list { result.list ≡ [] }
         ensures waiting { result.waiting ≡ [] }
@@ -67,6 +97,8 @@ impl Chronicle {
             stored_serial: 0,
             known_serial: 0,
             version: 0,
+            realm: None,
+            waiting_realm: None,
         }
     }
 
@@ -102,7 +134,7 @@ impl Chronicle {
     }
 
     /// The greatest serial of a root or a tab that the facts name.
-    pub(crate) fn last_known_serial(&self) -> u64
+    pub fn last_known_serial(&self) -> u64
         ensures value { result ≡ last_known_serial self.now.list }
     {
         self.known_serial
@@ -115,6 +147,13 @@ impl Chronicle {
         self.version
     }
 
+    /// The realm in force: the last one that was put.
+    pub fn current_realm(&self) -> Option<&Realm>
+        ensures value { option_copied result ≡ current_realm self.now.list }
+    {
+        self.realm.as_ref()
+    }
+
     /// Copies the facts to those that wait, in the place of what waited, and makes room for them.
     pub fn reserve(&mut self, facts: &[Fact]) -> Result<(), Memory>
         ensures list { self.new.list ≡ self.old.list }
@@ -122,13 +161,16 @@ impl Chronicle {
         ensures err { OnErr result (self.new.waiting ≡ []) }
     {
         self.waiting.clear();
+        self.waiting_realm = None;
         self.list.reserve(facts.len())?;
+        let realm = put_realm(self.alloc, facts)?;
         self.waiting = copies(self.alloc, facts)?;
+        self.waiting_realm = realm;
         Ok(())
     }
 
     /// Moves the facts that wait to the end of the list. It takes no memory.
-    #[tactic(auto, using(crate::proofs::SerialLemmas::last_tab_serial_more, crate::proofs::SerialLemmas::last_stored_serial_more, crate::proofs::SerialLemmas::last_known_serial_more, crate::proofs::InForce::last_version_more))]
+    #[tactic(auto, using(crate::proofs::SerialLemmas::last_tab_serial_more, crate::proofs::SerialLemmas::last_stored_serial_more, crate::proofs::SerialLemmas::last_known_serial_more, crate::proofs::InForce::last_version_more, crate::proofs::InForce::current_realm_more))]
     pub fn add(&mut self)
         ensures list { self.new.list ≡ self.old.list ++ self.old.waiting }
         ensures waiting { self.new.waiting ≡ [] }
@@ -138,6 +180,7 @@ impl Chronicle {
         self.stored_serial = fold_in(waiting, &StoredSerial, self.stored_serial);
         self.known_serial = fold_in(waiting, &KnownSerial, self.known_serial);
         self.version = fold_in(waiting, &Version, self.version);
+        renew(&mut self.realm, &mut self.waiting_realm);
         let Ok(()) = self.list.append(&mut self.waiting) else {
             unreachable!()
         };

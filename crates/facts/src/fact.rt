@@ -1,14 +1,14 @@
-use crate::action::Action;
-use crate::realm::Realm;
-use crate::secret::{Secret, SecretKind};
-use flow_tree::Kind;
+use crate::admin::TokenAction;
+use crate::secret::Secret;
+use conditions::SecretKind;
 use lockout::Standing;
 use login_base::{
-    Code, Duplicate, Memory, Name, RootKey, Sequence, SessionId, TabKey, TokenKey, UserId,
+    Code, Duplicate, Memory, Moment, Name, RootKey, Sequence, SessionId, TabKey, TokenKey, UserId,
 };
+use realm_data::{Action, Realm};
 use std::alloc::Global;
 
-/// One thing that happened. Moments are milliseconds; serials and ids are those of the ask.
+/// One thing that happened. Serials and ids are those of the ask that it came from.
 #[derive(Debug, Drop)]
 pub enum Fact {
     /// From now on the realm is this one, with this version.
@@ -40,11 +40,11 @@ pub enum Fact {
         user: UserId,
         kind: Action,
     },
-    /// A token that can be spent before the moment `expiry`.
+    /// A token that can be spent before `expiry`, in milliseconds.
     TokenMade {
         key: TokenKey,
         user: UserId,
-        kind: Action,
+        kind: TokenAction,
         expiry: u64,
     },
     /// The token was followed, and can't be again.
@@ -62,7 +62,7 @@ pub enum Fact {
     /// A failed attempt on the account.
     Failed {
         user: UserId,
-        moment: u64,
+        moment: Moment,
     },
     /// The code of a time step of 30 s (RFC 6238) was used, of the secret with this serial.
     SpentStep {
@@ -79,20 +79,20 @@ pub enum Fact {
         session: SessionId,
         root: Option<RootKey>,
         user: UserId,
-        moment: u64,
+        moment: Moment,
         idle: u64,
         max: u64,
     },
     /// The session was used.
     Seen {
         session: SessionId,
-        moment: u64,
+        moment: Moment,
     },
     /// The session reached a level of authentication.
     Level {
         session: SessionId,
         level: u32,
-        moment: u64,
+        moment: Moment,
     },
     /// The session is over. It doesn't give its root an earlier one back.
     SessionEnd {
@@ -103,7 +103,7 @@ pub enum Fact {
         tab: TabKey,
         user: UserId,
         session: SessionId,
-        moment: u64,
+        moment: Moment,
     },
     /// A tab was opened, with the realm of this version. Its life is in milliseconds.
     Opened {
@@ -112,7 +112,7 @@ pub enum Fact {
         version: u64,
         level: u32,
         life: u64,
-        moment: u64,
+        moment: Moment,
     },
     /// A tab's page was shown, with the action that it asks, if any, and the offer of the ask.
     Rendered {
@@ -126,14 +126,15 @@ pub enum Fact {
         tab: TabKey,
         user: UserId,
     },
-    /// A tab's post for an execution was accepted: with the secret of this serial, 0 for a name.
+    /// A tab's post for an execution was accepted. It rests on the secret of this kind and serial,
+    /// or on none, with the serial 0, where a name was all that it took.
     Passed {
         tab: TabKey,
         execution: Name,
         user: UserId,
-        kind: Kind,
+        kind: Option<SecretKind>,
         credential: u64,
-        moment: u64,
+        moment: Moment,
     },
     /// An opening value: what the user's failures have come to.
     Standing {
@@ -144,8 +145,8 @@ pub enum Fact {
     Mark {
         tab_serial: u64,
         stored_serial: u64,
-        used_moment: u64,
-        stored_moment: u64,
+        used_moment: Moment,
+        stored_moment: Moment,
     },
 }
 

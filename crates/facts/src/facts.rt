@@ -7,8 +7,8 @@ use std::marker::Model;
 /// The facts of a chronicle, and more behind them. Contracts see the one list.
 #[derive(Drop)]
 pub struct Facts<'a> {
-    pub(crate) chronicle: &'a Chronicle,
-    pub(crate) more: &'a [Fact],
+    chronicle: &'a Chronicle,
+    more: &'a [Fact],
 }
 
 impl<'a> Model for Facts<'a> {
@@ -40,5 +40,12 @@ impl<'a> Facts<'a> {
         ensures facts { result ≡ chronicle.now.list ++ more.now }
     {
         Facts { chronicle, more }
+    }
+
+    /// The chronicle, and the facts behind it.
+    pub fn parts(&self) -> (&'a Chronicle, &'a [Fact])
+        ensures facts { self.now ≡ result.0.now.list ++ result.1.now }
+    {
+        (self.chronicle, self.more)
     }
 }

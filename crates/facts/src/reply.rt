@@ -1,7 +1,7 @@
-use crate::action::Action;
 use crate::rule::Rule;
 use flow_tree::Kind;
 use login_base::{Code, Duplicate, Memory, Name, RootKey, Sequence, SessionId, TabKey, UserId};
+use realm_data::Action;
 use std::alloc::Global;
 
 /// A user as a reply names one.

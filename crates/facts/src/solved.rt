@@ -1,11 +1,11 @@
-ghost use Rattle.std.specs.Prelude.{◌≡◌, Some, None, IsTrue, if◌then◌else◌};
-ghost use Rattle.facts.specs.Passwords.{password_use, password_text, is_iterations, is_finding_of, is_empty, is_solved, emptied};
+ghost use Rattle.std.specs.Prelude.{◌≡◌, Some, None, [], IsTrue, if◌then◌else◌};
+ghost use Rattle.facts.specs.Passwords.{password_use, password_text, form_slot, verb_slot, text_of, is_finding_of, is_empty, is_solved, emptied, emptied_form, emptied_verb};
 
-use crate::admin::AdminVerb;
+use crate::admin::{AdminVerb, NewUser};
 use crate::ask::{Ask, Form};
 use crate::finding::{Finding, PasswordUse};
-use crate::password_hash::MOST_ITERATIONS;
 use login_base::Sequence;
+use realm_data::is_iterations;
 use std::alloc::Global;
 use std::marker::Model;
 use std::mem;
@@ -38,21 +38,56 @@ pub fn password_use(ask: &Ask) -> PasswordUse
     ensures value { result ≡ password_use ask.now }
 {
     match ask {
-        Ask::Post { form, .. } => match form {
+        Ask::Post(post) => match &post.form {
             Form::Password { .. } | Form::NamePassword { .. } => PasswordUse::Checks,
             Form::UpdatePassword { .. } => PasswordUse::Sets,
-            _ => PasswordUse::NoPassword,
+            Form::Username { .. }
+            | Form::Value { .. }
+            | Form::Terms
+            | Form::ConfigureOtp { .. }
+            | Form::RecoveryCodes
+            | Form::VerifyEmail => PasswordUse::NoPassword,
         },
         Ask::Reset { .. } => PasswordUse::Sets,
         Ask::Admin { verb, .. } => match verb {
             AdminVerb::SetPassword { .. } => PasswordUse::Sets,
-            AdminVerb::UserAdd {
-                password: Some(_),
-                ..
-            } => PasswordUse::Sets,
+            AdminVerb::UserAdd(user) if user.password.is_some() => PasswordUse::Sets,
             _ => PasswordUse::NoPassword,
         },
         _ => PasswordUse::NoPassword,
+    }
+}
+
+fn take_from_form(form: &mut Form, nothing: Sequence<u8>) -> Sequence<u8>
+    requires nothing { nothing ≡ [] }
+    ensures form { form.new ≡ emptied_form form.old }
+    ensures password { result ≡ text_of (form_slot form.old) }
+{
+    match form {
+        Form::Password { password, .. } => mem::replace(password, nothing),
+        Form::NamePassword { password, .. } => mem::replace(password, nothing),
+        Form::UpdatePassword { password } => mem::replace(password, nothing),
+        Form::Username { .. }
+        | Form::Value { .. }
+        | Form::Terms
+        | Form::ConfigureOtp { .. }
+        | Form::RecoveryCodes
+        | Form::VerifyEmail => nothing,
+    }
+}
+
+fn take_from_verb(verb: &mut AdminVerb, nothing: Sequence<u8>) -> Sequence<u8>
+    requires nothing { nothing ≡ [] }
+    ensures verb { verb.new ≡ emptied_verb verb.old }
+    ensures password { result ≡ text_of (verb_slot verb.old) }
+{
+    match verb {
+        AdminVerb::SetPassword { password, .. } => mem::replace(password, nothing),
+        AdminVerb::UserAdd(NewUser {
+            password: Some(password),
+            ..
+        }) => mem::replace(password, nothing),
+        _ => nothing,
     }
 }
 
@@ -63,21 +98,9 @@ pub fn take_password(alloc: Global, ask: &mut Ask) -> Sequence<u8>
 {
     let nothing = Sequence::new(alloc);
     match ask {
-        Ask::Post { form, .. } => match form {
-            Form::Password { password, .. } => mem::replace(password, nothing),
-            Form::NamePassword { password, .. } => mem::replace(password, nothing),
-            Form::UpdatePassword { password } => mem::replace(password, nothing),
-            _ => nothing,
-        },
+        Ask::Post(post) => take_from_form(&mut post.form, nothing),
         Ask::Reset { password, .. } => mem::replace(password, nothing),
-        Ask::Admin { verb, .. } => match verb {
-            AdminVerb::SetPassword { password, .. } => mem::replace(password, nothing),
-            AdminVerb::UserAdd {
-                password: Some(password),
-                ..
-            } => mem::replace(password, nothing),
-            _ => nothing,
-        },
+        Ask::Admin { verb, .. } => take_from_verb(verb, nothing),
         _ => nothing,
     }
 }
@@ -86,7 +109,7 @@ fn has_empty_password(ask: &Ask) -> bool
     ensures { result ≡ is_empty (password_text ask.now) }
 {
     match ask {
-        Ask::Post { form, .. } => match form {
+        Ask::Post(post) => match &post.form {
             Form::Password { password, .. }
             | Form::NamePassword { password, .. }
             | Form::UpdatePassword { password } => password.is_empty(),
@@ -95,10 +118,10 @@ fn has_empty_password(ask: &Ask) -> bool
         Ask::Reset { password, .. } => password.is_empty(),
         Ask::Admin { verb, .. } => match verb {
             AdminVerb::SetPassword { password, .. } => password.is_empty(),
-            AdminVerb::UserAdd {
+            AdminVerb::UserAdd(NewUser {
                 password: Some(password),
                 ..
-            } => password.is_empty(),
+            }) => password.is_empty(),
             _ => true,
         },
         _ => true,
@@ -111,9 +134,7 @@ fn is_finding_of(usage: PasswordUse, finding: &Finding) -> bool
     match (usage, finding) {
         (PasswordUse::NoPassword, Finding::None) => true,
         (PasswordUse::Checks, Finding::Checked { .. }) => true,
-        (PasswordUse::Sets, Finding::Derived { iterations, .. }) => {
-            1 <= *iterations && *iterations <= MOST_ITERATIONS
-        }
+        (PasswordUse::Sets, Finding::Derived { iterations, .. }) => is_iterations(*iterations),
         _ => false,
     }
 }

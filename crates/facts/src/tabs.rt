@@ -1,40 +1,37 @@
-ghost use Rattle.std.specs.Prelude.{◌≡◌, Some, fold, if◌then◌else◌};
-ghost use Rattle.facts.specs.Tabs.{is_root, seen_at, ended_by, session_after, is_live, live_session, who_of, tab_after, are_new, tab_state};
-ghost use Rattle.login_base.specs.IdText.{same_id};
+ghost use Rattle.std.specs.Prelude.{◌≡◌};
+ghost use Rattle.facts.specs.Tabs.{is_live, live_session, who_of};
 
-use crate::chronicle::Chronicle;
-use crate::fact::Fact;
-use crate::facts::Facts;
-use crate::scan::{Fold, fold_by, fold_in};
-use login_base::{Code, RootKey, SessionId, Steps, TabKey, UserId, same_id};
-use std::sync::ledger::Ledger;
+use login_base::{Code, Moment, SessionId, UserId};
 
-/// With what a tab was opened: the version of the realm, and the asked level.
+/// With what a tab was opened: the version of the realm, the asked level, its life in milliseconds,
+/// and when.
 #[derive(Clone, Copy, Debug, PartialEq, Eq)]
 pub struct Opening {
     pub version: u64,
     pub level: u32,
+    pub life: u64,
+    pub moment: Moment,
 }
 
-/// A session of a root, with the moments of its beginning and of its last use, in milliseconds,
-/// and how long it lives without use and at most, in seconds.
+/// A session of a root, with the moments of its beginning and of its last use, and how long it
+/// lives without use and at most, in seconds.
 #[derive(Clone, Copy, Debug, PartialEq, Eq)]
 pub struct RootSession {
     pub session: SessionId,
     pub user: UserId,
-    pub opened: u64,
-    pub seen: u64,
+    pub opened: Moment,
+    pub seen: Moment,
     pub idle: u64,
     pub max: u64,
 }
 
 impl RootSession {
-    /// Whether it is in use at the moment `now`, in milliseconds.
-    pub fn is_live(&self, now: u64) -> bool
+    /// Whether it is in use at the moment `now`.
+    pub fn is_live(&self, now: Moment) -> bool
         ensures value { result ≡ is_live now self.now }
     {
-        now.saturating_sub(self.seen) / 1000 < self.idle
-            && now.saturating_sub(self.opened) / 1000 < self.max
+        now.millis().saturating_sub(self.seen.millis()) / 1000 < self.idle
+            && now.millis().saturating_sub(self.opened.millis()) / 1000 < self.max
     }
 }
 
@@ -54,8 +51,8 @@ pub struct TabState {
 }
 
 impl TabState {
-    /// The session that is live in the root at the moment `now`, in milliseconds.
-    pub fn live_session(&self, now: u64) -> Option<RootSession>
+    /// The session that is live in the root at the moment `now`.
+    pub fn live_session(&self, now: Moment) -> Option<RootSession>
         ensures value { result ≡ live_session now self.now }
     {
         match self.session {
@@ -64,175 +61,14 @@ impl TabState {
         }
     }
 
-    /// Whose login it is at the moment `now`, in milliseconds: that of the user of the root's live
+    /// Whose login it is at the moment `now`: that of the user of the root's live
     /// session, else of the user that was named last.
-    pub fn who(&self, now: u64) -> Option<UserId>
+    pub fn who(&self, now: Moment) -> Option<UserId>
         ensures value { result ≡ who_of now self.now }
     {
         match self.live_session(now) {
             Some(own) => Some(own.user),
             None => self.named,
         }
-    }
-}
-
-impl TabState {
-    /// What is known of a tab of a root, where this was known before these facts.
-    pub fn with(self, root: RootKey, tab: TabKey, more: &[Fact]) -> TabState
-        ensures value { result ≡ fold (tab_after root tab) self more.now }
-    {
-        fold_in(more, &TabOf { root, tab }, self)
-    }
-}
-
-/// A use of a session at a moment moves its last use.
-fn seen_at(own: Option<RootSession>, session: &SessionId, moment: u64) -> Option<RootSession>
-    ensures { result ≡ seen_at session.now moment own }
-{
-    match own {
-        Some(own) if same_id(&own.session.0, &session.0) => Some(RootSession {
-            seen: moment,
-            ..own
-        }),
-        _ => own,
-    }
-}
-
-/// The end of a session takes it away.
-fn ended_by(own: Option<RootSession>, session: &SessionId) -> Option<RootSession>
-    ensures { result ≡ ended_by session.now own }
-{
-    match own {
-        Some(own) if same_id(&own.session.0, &session.0) => None,
-        _ => own,
-    }
-}
-
-/// Carries what is known of a tab of a root.
-#[derive(Clone, Copy, Debug)]
-struct TabOf {
-    root: RootKey,
-    tab: TabKey,
-}
-
-impl TabOf {
-    fn is_root(&self, root: &Option<RootKey>) -> bool
-        ensures { result ≡ is_root self.now.root root.now }
-    {
-        match root {
-            Some(root) => same_id(&root.0, &self.root.0),
-            None => false,
-        }
-    }
-
-    fn is_tab(&self, tab: &TabKey) -> bool
-        ensures { result ≡ same_id tab.now.0 self.now.tab.0 }
-    {
-        same_id(&tab.0, &self.tab.0)
-    }
-
-    /// The root's session after a fact.
-    fn session_after(&self, own: Option<RootSession>, fact: &Fact) -> Option<RootSession>
-        ensures { result ≡ session_after self.now.root own fact.now }
-    {
-        match fact {
-            Fact::Session {
-                session,
-                root,
-                user,
-                moment,
-                idle,
-                max,
-            } if self.is_root(root) => Some(RootSession {
-                session: *session,
-                user: *user,
-                opened: *moment,
-                seen: *moment,
-                idle: *idle,
-                max: *max,
-            }),
-            Fact::Seen { session, moment } => seen_at(own, session, *moment),
-            Fact::SessionEnd { session } => ended_by(own, session),
-            _ => own,
-        }
-    }
-
-    /// The opening after one of this tab: only one in the root counts.
-    fn opening(&self, root: &RootKey, new: Opening, own: Option<Opening>) -> Option<Opening>
-        ensures { result ≡ (if same_id root.now.0 self.now.root.0 then Some new else own) }
-    {
-        if same_id(&root.0, &self.root.0) {
-            Some(new)
-        } else {
-            own
-        }
-    }
-}
-
-impl Fold for TabOf {
-    ghost use Rattle.facts.specs.Tabs.{tab_after};
-
-    type Carried = TabState;
-
-    ghost carry = { λ t. tab_after t.root t.tab };
-
-    fn after(&self, carried: &mut TabState, fact: &Fact) {
-        match fact {
-            Fact::Opened {
-                root,
-                tab,
-                version,
-                level,
-                ..
-            } if self.is_tab(tab) => {
-                let new = Opening {
-                    version: *version,
-                    level: *level,
-                };
-                carried.opening = self.opening(root, new, carried.opening);
-                carried.completed = false;
-            }
-            Fact::Rendered { tab, code, .. } if self.is_tab(tab) => carried.code = Some(*code),
-            Fact::Named { tab, user } if self.is_tab(tab) => carried.named = Some(*user),
-            Fact::Completed { tab, .. } if self.is_tab(tab) => carried.completed = true,
-            Fact::Session { .. } | Fact::Seen { .. } | Fact::SessionEnd { .. } => {
-                carried.session = self.session_after(carried.session, fact);
-            }
-            _ => {}
-        }
-    }
-}
-
-/// Whether a root and a tab are newer than all that these facts name.
-fn are_new(chronicle: &Chronicle, root: RootKey, tab: TabKey) -> bool
-    ensures { result ≡ are_new root tab chronicle.now.list }
-{
-    let known = chronicle.last_known_serial();
-    known < root.0.serial && known < tab.0.serial
-}
-
-/// What is known of a tab of a root. Where both are newer than all that the chronicle names, its
-/// facts aren't read.
-#[tactic(auto, unfolding(crate::specs::Tabs::tab_state), using(crate::proofs::TabLemmas::new_tab_more))]
-pub fn tab_state<L: Ledger>(
-    facts: &Facts<'_>,
-    root: RootKey,
-    tab: TabKey,
-    steps: &mut Steps<L>,
-) -> TabState
-    ensures value { result ≡ tab_state root tab facts.now }
-{
-    let nothing = TabState {
-        opening: None,
-        code: None,
-        named: None,
-        completed: false,
-        session: None,
-    };
-    let of = TabOf { root, tab };
-    if are_new(facts.chronicle, root, tab) {
-        fold_in(facts.more, &of, nothing)
-    } else {
-        fold_by(facts, &of, nothing, steps)
     }
 }
