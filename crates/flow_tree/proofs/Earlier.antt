@@ -4,13 +4,14 @@ use Rattle.std.specs.List.{list_all, list_any, flat_map}
 use Rattle.std.specs.Str.{bytes_eq}
 use Rattle.std.proofs.lemmas.List.Folds.{list_any_at}
 use Rattle.flow_tree.specs.declared.before.Sought.{Sought}
-use Rattle.flow_tree.specs.declared.before.Sought.TheVariants.{Id, Level, Kind, Condition, OutOfRange}
+use Rattle.flow_tree.specs.declared.before.Sought.TheVariants.{Id, Level, Kind, Condition, OutOfRange, Nameless}
 use Rattle.flow_tree.specs.declared.exec.Exec.{Exec}
 use Rattle.flow_tree.specs.declared.exec.Requirement.{Requirement}
 use Rattle.flow_tree.specs.declared.before.Before.{Before}
 use Rattle.flow_tree.specs.declared.before.Before.TheViews as view
 use Rattle.flow_tree.specs.declared.before.Before.{Nothing}
 use Rattle.flow_tree.specs.Places.{Place, Flow, placed_at, places_at}
+use Rattle.login_base.specs.Names.{is_name}
 use Rattle.flow_tree.specs.Standing.{depth_of, before_of, is_sought, is_named}
 use Rattle.login_base.specs.declared.name.Name.{Name}
 
@@ -64,6 +65,7 @@ sought_flow (Level level) d id r = refl
 sought_flow (Kind kind) d id r = refl
 sought_flow Condition d id r = refl
 sought_flow OutOfRange d id r = refl
+sought_flow Nameless d id r = or_false (not (is_name id))
 
 -- one of the executions settles it
 pub places_found : (p : Place → Bool) (d : ℕ) (es : List Exec) (i : ℕ) (e : Exec) → i < length es → e ≡ get_or es i e → list_any p (placed_at d e) ≡ true → list_any p (places_at d es) ≡ true

@@ -2,6 +2,7 @@ pub mod Faults
 pub mod Flow
 pub mod Leaves
 pub mod Levels
+pub mod Names
 pub mod Places
 pub mod Ranges
 pub mod Standing

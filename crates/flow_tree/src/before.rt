@@ -6,6 +6,7 @@ ghost use Rattle.flow_tree.specs.declared.exec.Body.{out-Body};
 ghost use Rattle.flow_tree.specs.Standing.{depth_of, before_of, is_sought, is_named};
 
 use crate::exec::{Body, Exec, Kind, Requirement};
+use crate::names;
 use crate::range::is_level_in_range;
 use login_base::Name;
 
@@ -39,6 +40,8 @@ pub enum Sought<'a> {
     Condition,
     /// A condition of a level that is out of range, or has an age that is.
     OutOfRange,
+    /// An execution whose id is no name, or which asks for a role that is none.
+    Nameless,
 }
 
 impl Before<'_> {
@@ -97,6 +100,7 @@ fn is_named(id: &Name, sought: &Sought<'_>) -> bool
         Sought::Kind(_) => false,
         Sought::Condition => false,
         Sought::OutOfRange => false,
+        Sought::Nameless => !names::is_named(id),
     }
 }
 
@@ -136,6 +140,7 @@ fn is_itself(exec: &Exec, sought: &Sought<'_>) -> bool
         Sought::Kind(kind) => is_of_kind(exec, *kind),
         Sought::Condition => is_condition(exec),
         Sought::OutOfRange => !is_level_in_range(exec),
+        Sought::Nameless => !names::has_names(exec),
     }
 }
 

@@ -13,6 +13,7 @@ mod laws;
 mod leaves;
 mod live;
 mod lookup;
+mod names;
 mod needs;
 mod range;
 mod reach;

@@ -3,7 +3,7 @@ ghost use Rattle.flow_tree.specs.Flow.{has, judged, flow_needs, first_needs, off
 
 use crate::exec::{Body, Exec};
 use crate::judge::{has, judge, tally};
-use login_base::{Memory, Name, Sequence};
+use login_base::{Duplicate, Memory, Name, Sequence};
 use std::alloc::Global;
 
 /// Adds what the execution needs, where these ids are true.
@@ -93,5 +93,5 @@ fn add_leaf(
     if has(held, id) {
         return Ok(());
     }
-    needs.push(id.copy(alloc)?)
+    needs.push(id.duplicate(alloc)?)
 }

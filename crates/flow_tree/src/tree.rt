@@ -4,6 +4,7 @@ ghost use Rattle.flow_tree.specs.Faults.{fault_of, broken, IsFirstRule, is_condi
 ghost use Rattle.flow_tree.specs.Flow.{flow_holds, flow_needs, level_holds};
 ghost use Rattle.flow_tree.specs.Leaves.{leaves_of};
 ghost use Rattle.flow_tree.specs.Levels.{live_levels, live_age};
+ghost use Rattle.flow_tree.specs.Names.{has_names};
 ghost use Rattle.flow_tree.specs.Places.{places, is_of_kind, kind_among};
 ghost use Rattle.flow_tree.specs.Ranges.{is_level_in_range};
 
@@ -175,6 +176,13 @@ impl Tree {
         ensures value { result ≡ list_all (λ p. is_level_in_range p.shape) (places self.now) }
     {
         !is_among(self.execs.as_slice(), &Sought::OutOfRange)
+    }
+
+    /// Whether each execution's id is a name, and each role that a condition asks for.
+    pub fn has_names(&self) -> bool
+        ensures value { result ≡ has_names self.now }
+    {
+        !is_among(self.execs.as_slice(), &Sought::Nameless)
     }
 
     /// Whether the trees are equal.

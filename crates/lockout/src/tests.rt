@@ -1,9 +1,9 @@
-ghost use Rattle.std.specs.Prelude.{◌≡◌, ◌<◌, ◌≤◌, ◌^◌, IsTrue, false};
-ghost use Rattle.std.specs.Option.{ForSome};
+ghost use Rattle.std.specs.Prelude.{◌≡◌, ◌≤◌, IsTrue, false};
 ghost use Rattle.lockout.specs.Policy.{IsPolicy};
 
 use crate::policy::{Mode, Policy};
 use crate::standing::Standing;
+use login_base::Moment;
 use std::process::Abort;
 
 const LOCKING: Policy = Policy {
@@ -312,21 +312,15 @@ const CASES: [Case; 31] = [
 ];
 
 /// Whether a failure may be counted.
-fn may_strike(standing: &Standing, policy: &Policy, now: u64) -> bool
+fn may_strike(standing: &Standing, policy: &Policy, now: Moment) -> bool
     ensures policy { IsTrue result → IsPolicy policy.now }
-    ensures moment { IsTrue result → now < 2 ^ 53 }
-    ensures order { IsTrue result → ForSome standing.now.last (λ last. last ≤ now) }
     ensures unlocked { IsTrue result → standing.now.until ≤ now }
     ensures open { IsTrue result → standing.now.permanent ≡ false }
 {
-    policy.is_valid()
-        && now < 1 << 53
-        && standing.last.is_none_or(|last| last <= now)
-        && !standing.locked(now)
-        && !standing.permanent
+    policy.is_valid() && !standing.locked(now) && !standing.permanent
 }
 
-fn strike(rt: &impl Abort, standing: &mut Standing, policy: &Policy, now: u64) {
+fn strike(rt: &impl Abort, standing: &mut Standing, policy: &Policy, now: Moment) {
     assert!(rt; may_strike(standing, policy, now));
     standing.strike(policy, now);
 }
@@ -334,6 +328,8 @@ fn strike(rt: &impl Abort, standing: &mut Standing, policy: &Policy, now: u64) {
 #[test]
 fn strikes_by_the_steps(rt: HostRuntime) {
     for (name, policy, (count, last, until), now, after) in CASES {
+        let now = Moment::clamped(now);
+        let last = last.map(Moment::clamped);
         let mut standing = Standing {
             count,
             last,
@@ -393,7 +389,7 @@ fn strikes_one_after_another(rt: HostRuntime) {
     for (name, policy, moments, after) in runs {
         let mut standing = NO_FAILURES;
         for &now in moments {
-            strike(&rt, &mut standing, &policy, now);
+            strike(&rt, &mut standing, &policy, Moment::clamped(now));
         }
         assert_eq!(rt;
             (standing.count, standing.until, standing.permanent),
@@ -407,14 +403,14 @@ fn strikes_one_after_another(rt: HostRuntime) {
 fn clears_and_tells_locked(rt: HostRuntime) {
     let mut standing = Standing {
         count: 4,
-        last: Some(80_000),
+        last: Some(Moment::clamped(80_000)),
         until: 140_000,
         permanent: true,
     };
-    assert!(rt; standing.locked(139_999));
-    assert!(rt; !standing.locked(140_000));
+    assert!(rt; standing.locked(Moment::clamped(139_999)));
+    assert!(rt; !standing.locked(Moment::clamped(140_000)));
     standing.clear();
     assert_eq!(rt; standing, NO_FAILURES);
     assert_eq!(rt; Standing::default(), NO_FAILURES);
-    assert!(rt; !standing.locked(0));
+    assert!(rt; !standing.locked(Moment::ZERO));
 }

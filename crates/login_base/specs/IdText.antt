@@ -44,7 +44,7 @@ id_of text =
       Some (record { serial = serial; high = high; low = low }))
     else None
 
--- both ids have the same serial and words
+-- both ids have the same serial and draws
 abbrev pub same_id : Id → Id → Bool
 same_id a b = a.serial == b.serial && a.high == b.high && a.low == b.low
 

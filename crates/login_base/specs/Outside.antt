@@ -1,5 +1,5 @@
 -- What the objects of the outside do, and what they count.
-use Rattle.std.specs.Prelude.{◌≡◌, ℕ, ◌+◌, ◌-◌, ◌^◌, ◌≤◌, min, Bool, false, not, ◌&&◌, ◌==◌, List, [], ◌++◌, length, take, Option, Some, None, if◌then◌else◌}
+use Rattle.std.specs.Prelude.{◌≡◌, ℕ, ◌+◌, ◌-◌, ◌^◌, ◌≤◌, min, Bool, true, false, not, ◌&&◌, ◌==◌, List, [], ◌++◌, length, take, Option, Some, None, if◌then◌else◌}
 use Rattle.login_base.specs.declared.source.Read.{Read}
 use Rattle.login_base.specs.declared.source.Read.TheVariants as reads
 use Rattle.login_base.specs.declared.sink.Put.{Put}
@@ -33,6 +33,10 @@ abbrev pub is_end : Read → ℕ → Bool
 is_end (reads.Got n) room = n == 0 && not (room == 0)
 is_end reads.Failed room = false
 
+abbrev pub is_failed_read : Read → Bool
+is_failed_read (reads.Got n) = false
+is_failed_read reads.Failed = true
+
 -- nothing is left, where it is told
 abbrev pub IsAtEnd : Option (List ℕ) → Type 0
 IsAtEnd None = Unit {0}
@@ -41,6 +45,10 @@ IsAtEnd (Some bytes) = bytes ≡ []
 -- the count of ends after a read into so much room: an end raises it, and nothing else changes it
 abbrev pub ends_after : Read → ℕ → ℕ → ℕ
 ends_after read room before = if is_end read room then counted before else before
+
+abbrev pub is_failed_put : Put → Bool
+is_failed_put puts.All = false
+is_failed_put puts.Failed = true
 
 -- all bytes were added, or a front of them where the write failed
 abbrev pub PutAdds : Option (List ℕ) → Option (List ℕ) → Put → List ℕ → Type 0

@@ -4,11 +4,12 @@ use crate::memory::Memory;
 use std::alloc::Global;
 use std::marker::Model;
 
-/// The words of a command line, without the program's name. Contracts see the list of their bytes.
+/// The arguments of a command line, without the program's name. Contracts see the list of their
+/// bytes.
 #[derive(Drop)]
 pub struct Argv {
     alloc: Global,
-    words: Vec<String>,
+    arguments: Vec<String>,
 }
 
 impl Model for Argv {
@@ -17,41 +18,41 @@ impl Model for Argv {
 
     ghost Value = { List (List ℕ) };
 
-    ghost view = { λ a. map string_bytes a.words.items };
+    ghost view = { λ a. map string_bytes a.arguments.items };
 }
 
 impl Argv {
-    /// No words.
+    /// No arguments.
     pub fn make(alloc: Global) -> Argv
-        ensures words { result ≡ [] }
+        ensures arguments { result ≡ [] }
     {
         Argv {
             alloc,
-            words: Vec::new(alloc),
+            arguments: Vec::new(alloc),
         }
     }
 
     pub fn len(&self) -> usize
         ensures value { result ≡ length self.now }
     {
-        self.words.len()
+        self.arguments.len()
     }
 
-    /// The word at a place, from 0.
-    pub fn word(&self, index: usize) -> &str
+    /// The argument at a place, from 0.
+    pub fn argument(&self, index: usize) -> &str
         requires within { index < length self.now }
-        ensures word { slice_get self.now index ≡ Some result.now }
+        ensures argument { slice_get self.now index ≡ Some result.now }
     {
-        self.words[index].as_str()
+        self.arguments[index].as_str()
     }
 
-    /// Adds a word at the end.
-    pub fn push(&mut self, word: &str) -> Result<(), Memory>
-        ensures ok { OnOk result (self.new ≡ self.old ++ word.now ∷ []) }
+    /// Adds an argument at the end.
+    pub fn push(&mut self, argument: &str) -> Result<(), Memory>
+        ensures ok { OnOk result (self.new ≡ self.old ++ argument.now ∷ []) }
         ensures err { OnErr result (self.new ≡ self.old) }
     {
-        let text = String::from_str(self.alloc, word)?;
-        self.words.push(text)?;
+        let text = String::from_str(self.alloc, argument)?;
+        self.arguments.push(text)?;
         Ok(())
     }
 }

@@ -34,7 +34,7 @@ impl Duplicate for [u8; 32] {
 
 impl Duplicate for Name {
     fn duplicate(&self, alloc: Global) -> Result<Name, Memory> {
-        self.copy(alloc)
+        Name::known(alloc, self.as_bytes())
     }
 }
 

@@ -1,7 +1,7 @@
 ghost use Rattle.std.specs.Prelude.{◌≡◌, ◌<◌, ◌≤◌, ◌+◌, ◌++◌, length, take, drop, Some, IfSome};
 ghost use Rattle.login_base.specs.IdText.{hex_text, hex_digit, hex_value_from, digit_value, id_bytes, id_of, same_id, IsId};
 
-/// A serial number, which makes ids distinct, and two random words, which make them hard to guess.
+/// A serial number, which makes ids distinct, and two random draws, which make them hard to guess.
 #[derive(Clone, Copy, Debug, PartialEq, Eq)]
 pub struct Id {
     pub serial: u64,
@@ -33,7 +33,7 @@ pub struct TokenKey(pub Id);
 #[derive(Clone, Copy, Debug, PartialEq, Eq)]
 pub struct UserId(pub u64);
 
-/// Whether both ids have the same serial and words.
+/// Whether both ids have the same serial and draws.
 pub fn same_id(first: &Id, second: &Id) -> bool
     ensures value { result ≡ same_id first.now second.now }
 {
@@ -69,7 +69,7 @@ fn put_hex(out: &mut [u8], at: usize, n: u64)
     place.copy_from_slice(&hex(n));
 }
 
-/// The text of an id: 16 small hexadecimal digits of the serial, a dot, and 32 of the two words.
+/// The text of an id: 16 small hexadecimal digits of the serial, a dot, and 32 of the two draws.
 pub fn id_text(id: &Id) -> [u8; 49]
     ensures text { result ≡ id_bytes id.now }
 {

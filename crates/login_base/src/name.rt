@@ -14,16 +14,20 @@ pub struct Name {
 }
 
 impl Model for Name {
-    ghost use Rattle.std.specs.Prelude.{List, ℕ};
+    ghost use Rattle.std.specs.Prelude.{List, ℕ, IsTrue};
+    ghost use Rattle.login_base.specs.Names.{is_name};
 
     ghost Value = { List ℕ };
 
     ghost view = { λ n. n.bytes.items };
+
+    ghost invariant = { λ n. IsTrue (is_name n.bytes.items) };
 }
 
 impl Name {
     pub fn as_bytes(&self) -> &[u8]
         ensures bytes { result.now ≡ self.now }
+        ensures name { IsTrue (is_name self.now) }
     {
         self.bytes.as_slice()
     }
@@ -34,13 +38,6 @@ impl Name {
         ensures ok { IfOk result (λ n. n ≡ text.now) }
     {
         let bytes = Vec::from_slice(alloc, text)?;
-        Ok(Name { bytes })
-    }
-
-    pub fn copy(&self, alloc: Global) -> Result<Name, Memory>
-        ensures ok { IfOk result (λ n. n ≡ self.now) }
-    {
-        let bytes = Vec::from_slice(alloc, self.bytes.as_slice())?;
         Ok(Name { bytes })
     }
 }
@@ -84,8 +81,8 @@ fn has_name_bytes(text: &[u8]) -> bool
     text.iter().all(|b| is_name_byte(*b))
 }
 
-fn is_name(text: &[u8]) -> bool
-    ensures { result ≡ is_name text.now }
+pub fn is_name(text: &[u8]) -> bool
+    ensures value { result ≡ is_name text.now }
 {
     match text {
         [] => false,

@@ -1,6 +1,8 @@
 ghost use Rattle.std.specs.Prelude.{◌≡◌, ◌≤◌, [], ℕ, List, Option, Some};
-ghost use Rattle.login_base.specs.Outside.{Rose, PutAdds};
+ghost use Rattle.login_base.specs.InMemory.{FailsNext, called, no_calls};
+ghost use Rattle.login_base.specs.Outside.{Rose, PutAdds, is_failed_put};
 
+use crate::calls::Calls;
 use std::alloc::Global;
 use std::marker::Model;
 
@@ -31,9 +33,7 @@ pub trait Sink {
 #[derive(Drop)]
 pub struct MemSink {
     bytes: Vec<u8>,
-    failing: Vec<u64>,
-    calls: u64,
-    faults: u64,
+    calls: Calls,
 }
 
 impl Model for MemSink {
@@ -41,21 +41,19 @@ impl Model for MemSink {
 
     ghost Value = { SinkState };
 
-    ghost view = { λ s. record { written = s.bytes.items; failing = s.failing.items; calls = s.calls; faults = s.faults } };
+    ghost view = { λ s. record { written = s.bytes.items; calls = s.calls } };
 }
 
 impl MemSink {
-    /// A sink with nothing written. The calls whose numbers, from 1, stand in `failing` fail: they
-    /// raise the count of faults by one and change nothing else but the number of calls. So does a
-    /// call whose bytes find no room.
+    /// A sink with nothing written. The calls whose numbers, from 1, stand in `failing` fail: each
+    /// is a fault, and changes nothing else but the number of calls. So does a call whose bytes
+    /// find no room.
     pub fn make(alloc: Global, failing: Vec<u64>) -> MemSink
-        ensures state { result ≡ record { written = []; failing = failing.items; calls = 0; faults = 0 } }
+        ensures state { result ≡ record { written = []; calls = no_calls failing.items } }
     {
         MemSink {
             bytes: Vec::new(alloc),
-            failing,
-            calls: 0,
-            faults: 0,
+            calls: Calls::new(failing),
         }
     }
 
@@ -70,18 +68,23 @@ impl MemSink {
 impl Sink for MemSink {
     ghost written = { λ s. Some s.written };
 
-    ghost faults = { λ s. s.faults };
+    ghost faults = { λ s. s.calls.faults };
 
-    fn put(&mut self, bytes: &[u8]) -> Put {
-        self.calls = self.calls.saturating_add(1);
-        if self.failing.contains(&self.calls) {
-            self.faults = self.faults.saturating_add(1);
+    fn put(&mut self, bytes: &[u8]) -> Put
+        ensures bytes { PutAdds (Some self.old.written) (Some self.new.written) result bytes.now }
+        ensures faults { self.old.calls.faults ≤ self.new.calls.faults }
+        ensures cause { result ≡ Put.Failed → Rose self.old.calls.faults self.new.calls.faults }
+        ensures fails { FailsNext self.old.calls → result ≡ Put.Failed }
+        ensures calls { self.new.calls ≡ called (is_failed_put result) self.old.calls }
+        ensures whole { result ≡ Put.Failed → self.new.written ≡ self.old.written }
+    {
+        if self.calls.fails() {
             return Put::Failed;
         }
         match self.bytes.extend_from_slice(bytes) {
             Ok(()) => Put::All,
             Err(_) => {
-                self.faults = self.faults.saturating_add(1);
+                self.calls.add_fault();
                 Put::Failed
             }
         }

@@ -1,6 +1,8 @@
-ghost use Rattle.std.specs.Prelude.{◌≡◌, ◌≤◌, ◌↔◌, ℕ, List, [], length, Option, Some, IsTrue, Contains};
-ghost use Rattle.login_base.specs.Outside.{Rose, ReadTakes, IsAtEnd, is_end, ends_after, counted};
+ghost use Rattle.std.specs.Prelude.{◌≡◌, ◌≤◌, ◌↔◌, ℕ, List, [], length, Option, Some, IsTrue};
+ghost use Rattle.login_base.specs.InMemory.{FailsNext, called, no_calls};
+ghost use Rattle.login_base.specs.Outside.{Rose, ReadTakes, IsAtEnd, is_end, ends_after, is_failed_read};
 
+use crate::calls::Calls;
 use std::marker::Model;
 
 /// What a read answers. `Got(0)` on a buffer that isn't empty is the end.
@@ -36,9 +38,7 @@ pub trait Source {
 pub struct MemSource {
     bytes: Vec<u8>,
     at: usize,
-    failing: Vec<u64>,
-    calls: u64,
-    faults: u64,
+    calls: Calls,
     ends: u64,
 }
 
@@ -48,23 +48,21 @@ impl Model for MemSource {
 
     ghost Value = { SourceState };
 
-    ghost view = { λ s. record { left = drop s.at s.bytes.items; failing = s.failing.items; calls = s.calls; faults = s.faults; ends = s.ends } };
+    ghost view = { λ s. record { left = drop s.at s.bytes.items; calls = s.calls; ends = s.ends } };
 
     ghost invariant = { λ s. s.at ≤ vec_len s.bytes };
 }
 
 impl MemSource {
-    /// A source of these bytes. The calls whose numbers, from 1, stand in `failing` fail: they
-    /// raise the count of faults by one and change nothing else but the number of calls.
+    /// A source of these bytes. The calls whose numbers, from 1, stand in `failing` fail: each is
+    /// a fault, and changes nothing else but the number of calls.
     pub fn make(bytes: Vec<u8>, failing: Vec<u64>) -> MemSource
-        ensures state { result ≡ record { left = bytes.items; failing = failing.items; calls = 0; faults = 0; ends = 0 } }
+        ensures state { result ≡ record { left = bytes.items; calls = no_calls failing.items; ends = 0 } }
     {
         MemSource {
             bytes,
             at: 0,
-            failing,
-            calls: 0,
-            faults: 0,
+            calls: Calls::new(failing),
             ends: 0,
         }
     }
@@ -84,7 +82,7 @@ fn ends_after(got: usize, room: usize, ends: u64) -> u64
 impl Source for MemSource {
     ghost left = { λ s. Some s.left };
 
-    ghost faults = { λ s. s.faults };
+    ghost faults = { λ s. s.calls.faults };
 
     ghost ends = { λ s. s.ends };
 
@@ -92,15 +90,12 @@ impl Source for MemSource {
         ensures bytes { ReadTakes (Some self.old.left) (Some self.new.left) result buffer.new }
         ensures end { IsTrue (is_end result (length buffer.old)) → self.new.left ≡ [] }
         ensures ends { self.new.ends ≡ ends_after result (length buffer.old) self.old.ends }
-        ensures faults { self.old.faults ≤ self.new.faults }
-        ensures cause { result ≡ Read.Failed → Rose self.old.faults self.new.faults }
-        ensures fails { (result ≡ Read.Failed) ↔ Contains self.old.failing (counted self.old.calls) }
-        ensures calls { self.new.calls ≡ counted self.old.calls }
-        ensures failing { self.new.failing ≡ self.old.failing }
+        ensures faults { self.old.calls.faults ≤ self.new.calls.faults }
+        ensures cause { result ≡ Read.Failed → Rose self.old.calls.faults self.new.calls.faults }
+        ensures fails { (result ≡ Read.Failed) ↔ FailsNext self.old.calls }
+        ensures calls { self.new.calls ≡ called (is_failed_read result) self.old.calls }
     {
-        self.calls = self.calls.saturating_add(1);
-        if self.failing.contains(&self.calls) {
-            self.faults = self.faults.saturating_add(1);
+        if self.calls.fails() {
             return Read::Failed;
         }
         let count = buffer.len().min(self.bytes.len() - self.at);

@@ -1,8 +1,11 @@
+ghost use Rattle.login_base.specs.Steps.{IsBlank};
+
 use crate::{
-    Argv, Id, MemSink, MemSource, Memory, Name, Put, Read, Sequence, Sink, Source, id_text,
-    read_id, read_name,
+    Argv, Duplicate, Id, MemSink, MemSource, Moment, Name, Put, Read, Sequence, Sink, Source,
+    Steps, id_text, is_name, read_id, read_name,
 };
-use std::alloc::Global;
+use std::marker::Brand;
+use std::sync::ledger::{Blank, Ledger};
 use std::test::Fail;
 
 const FIRST: &str = "0000000000000001.00000000000000640000000000000065";
@@ -55,41 +58,71 @@ fn ids_are_spelled_and_read_back(rt: HostRuntime) -> Result<(), Fail> {
     Ok(())
 }
 
-fn is_name(alloc: Global, text: &[u8]) -> Result<bool, Memory> {
-    Ok(read_name(alloc, text)?.is_some())
-}
-
 #[test]
 fn names_keep_their_grammar(rt: HostRuntime) -> Result<(), Fail> {
     let names = ["a", "0", "ann", "a.b_c@d-e", "9lives"];
     let no_names = ["", "Ann", ".a", "_", "a b", "a+b", "caf\u{e9}", "-x", "a/b"];
     for text in names {
-        assert!(rt; is_name(rt.alloc(), text.as_bytes())?);
+        assert!(rt; is_name(text.as_bytes()));
+        assert!(rt; read_name(rt.alloc(), text.as_bytes())?.is_some());
     }
     for text in no_names {
-        assert!(rt; !is_name(rt.alloc(), text.as_bytes())?);
+        assert!(rt; !is_name(text.as_bytes()));
+        assert!(rt; read_name(rt.alloc(), text.as_bytes())?.is_none());
     }
-    assert!(rt; is_name(rt.alloc(), [b'a'; 64].as_slice())?);
-    assert!(rt; !is_name(rt.alloc(), [b'a'; 65].as_slice())?);
+    assert!(rt; is_name([b'a'; 64].as_slice()));
+    assert!(rt; !is_name([b'a'; 65].as_slice()));
     Ok(())
 }
 
 #[test]
-fn names_and_words_are_kept(rt: HostRuntime) -> Result<(), Fail> {
+fn names_and_arguments_are_kept(rt: HostRuntime) -> Result<(), Fail> {
     let name = Name::known(rt.alloc(), b"ann")?;
-    assert!(rt; name == name.copy(rt.alloc())?);
+    assert!(rt; name == name.duplicate(rt.alloc())?);
     assert!(rt; name != Name::known(rt.alloc(), b"bob")?);
     assert_eq!(rt; name.as_bytes(), b"ann".as_slice());
-    let mut words = Argv::make(rt.alloc());
-    words.push("replay")?;
-    words.push("--x")?;
-    assert_eq!(rt; words.len(), 2);
-    assert_eq!(rt; words.word(1), "--x");
+    let mut arguments = Argv::make(rt.alloc());
+    arguments.push("replay")?;
+    arguments.push("--x")?;
+    assert_eq!(rt; arguments.len(), 2);
+    assert_eq!(rt; arguments.argument(1), "--x");
     let mut items = Sequence::new(rt.alloc());
     items.push(7u8)?;
     assert_eq!(rt; items.as_slice(), [7u8].as_slice());
     assert_eq!(rt; items.get(1), None);
     Ok(())
+}
+
+#[test]
+fn moments_end_at_the_limit(rt: HostRuntime) {
+    let cases = [
+        (0, true, 0),
+        ((1 << 53) - 1, true, (1 << 53) - 1),
+        (1 << 53, false, (1 << 53) - 1),
+        (u64::MAX, false, (1 << 53) - 1),
+    ];
+    for (millis, is_moment, clamped) in cases {
+        assert_eq!(rt; Moment::new(millis).is_some(), is_moment);
+        assert_eq!(rt; Moment::clamped(millis).millis(), clamped);
+    }
+    let last = Moment::clamped(u64::MAX);
+    assert_eq!(rt; Moment::new((1 << 53) - 1), Some(last));
+    assert!(rt; last != Moment::ZERO);
+    assert_eq!(rt; Moment::ZERO.later(last), last);
+    assert_eq!(rt; last.later(Moment::ZERO), last);
+}
+
+fn tick_twice<L: Ledger>(blank: Blank)
+    requires blank { IsBlank blank L.name L.parts }
+{
+    let mut steps = Steps::<L>::new(blank);
+    steps.tick();
+    steps.tick();
+}
+
+#[test]
+fn steps_count_over_a_blank(_rt: HostRuntime) {
+    tick_twice::<Brand>(Blank::new(1));
 }
 
 #[test]

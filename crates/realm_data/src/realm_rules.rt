@@ -4,7 +4,23 @@ ghost use Rattle.std.specs.Option.{option_map_or};
 ghost use Rattle.std.specs.Str.{bytes_eq};
 ghost use Rattle.realm_data.specs.PasswordHash.{is_hash};
 ghost use Rattle.realm_data.specs.Realm.{
-    is_within, are_limits, is_otp_rule, is_policy, are_numbers, are_apart, is_before, are_ascending, is_bound, are_levels, are_clients, are_users, is_user_named, are_named, has_secrets_in_range, are_secrets, is_realm,
+  is_within,
+  are_limits,
+  is_otp_rule,
+  is_policy,
+  are_numbers,
+  are_apart,
+  is_before,
+  are_ascending,
+  is_bound,
+  are_levels,
+  are_clients,
+  are_users,
+  is_user_named,
+  are_named,
+  has_secrets_in_range,
+  are_secrets,
+  is_realm,
 };
 ghost use Rattle.realm_data.specs.Secrets.{is_otp_key, are_recovery_digests};
 ghost use Rattle.login_base.specs.Names.{is_name};
@@ -183,10 +199,16 @@ fn have_names<T: Named>(items: &[T]) -> bool
     items.iter().all(|item| is_named(item.name()))
 }
 
+fn are_roles(roles: &[Name]) -> bool
+    ensures { result ≡ list_all is_name roles.now }
+{
+    roles.iter().all(|role| is_named(role))
+}
+
 fn is_user_named(user: &RealmUser) -> bool
     ensures { result ≡ is_user_named user.now }
 {
-    is_named(&user.name) && user.roles.as_slice().iter().all(|role| is_named(role))
+    is_named(&user.name) && are_roles(user.roles.as_slice())
 }
 
 fn are_users_named(users: &[RealmUser]) -> bool
@@ -238,11 +260,16 @@ fn has_secrets_in_range(user: &RealmUser) -> bool
     is_hash_kept(&user.password) && is_otp_kept(&user.otp) && are_codes_kept(&user.recovery)
 }
 
+fn have_secrets_in_range(users: &[RealmUser]) -> bool
+    ensures { result ≡ list_all has_secrets_in_range users.now }
+{
+    users.iter().all(|user| has_secrets_in_range(user))
+}
+
 fn are_secrets(parts: &RealmParts) -> bool
     ensures { result ≡ are_secrets parts.now }
 {
-    parts.admin_key.len() == 32
-        && parts.users.as_slice().iter().all(|user| has_secrets_in_range(user))
+    parts.admin_key.len() == 32 && have_secrets_in_range(parts.users.as_slice())
 }
 
 /// Whether the parts keep the rules and the ranges of a realm.

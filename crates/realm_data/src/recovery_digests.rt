@@ -1,5 +1,6 @@
 ghost use Rattle.std.specs.Prelude.{◌≡◌, Some, None, if◌then◌else◌};
-ghost use Rattle.realm_data.specs.Secrets.{are_recovery_digests};
+ghost use Rattle.std.specs.List.{list_all};
+ghost use Rattle.realm_data.specs.Secrets.{is_digest, are_recovery_digests};
 
 use login_base::{Duplicate, Memory, Sequence};
 use std::alloc::Global;
@@ -46,11 +47,17 @@ impl RecoveryDigests {
     }
 }
 
+fn are_digests(digests: &[[u8; 32]]) -> bool
+    ensures { result ≡ list_all is_digest digests.now }
+{
+    digests.iter().all(|digest| digest.len() == 32)
+}
+
 /// Whether they are 1 to 16 digests of SHA-256.
 pub(crate) fn are_recovery_digests(digests: &[[u8; 32]]) -> bool
     ensures { result ≡ are_recovery_digests digests.now }
 {
-    1 <= digests.len() && digests.len() <= MOST_CODES && digests.iter().all(|d| d.len() == 32)
+    1 <= digests.len() && digests.len() <= MOST_CODES && are_digests(digests)
 }
 
 impl Duplicate for RecoveryDigests {

@@ -9,6 +9,6 @@ returns-clause-bytes c =
     let bytes = c.self.inside.bytes.items in
     let count = c.min-count.result in
     let back : at + count - at ≡ count = omega arith in
-    let copied = c.copy_from_slice.ensures.after ∙ ap (λ l. take (at + count - at) (drop at l)) c.deref-2.ensures.value ∙ ap (λ n. take n (drop at bytes)) back in
+    let copied = c.copy_from_slice.ensures.after ∙ ap (λ l. take (at + count - at) (drop at l)) c.deref.ensures.value ∙ ap (λ n. take n (drop at bytes)) back in
     let t = taken at count bytes c.args.buffer.now c.copy_from_slice.new.self (omega (arith, c.min-count.ensures)) (omega (arith, c.min-count.ensures, c.self.invariant)) copied in
     (t.0, ap (λ (s : SourceState). Some s.left) (sym c.self.view_is) ∙ ap Some t.1)
