@@ -1,34 +1,34 @@
-ghost use Rattle.std.specs.Prelude.{◌≡◌, ◌<◌, ◌≤◌, ◌+◌, ◌-◌, ◌^◌, ◌++◌, true, IfOk, OnOk};
-ghost use Rattle.facts.specs.Passwords.{is_iterations};
-ghost use Rattle.facts.specs.Serials.{last_stored_serial};
-ghost use Rattle.login_hall.specs.UserAdd.{without_setup, name_free, new_user, user_text, derived, user_added, due_user_add, IsKeepable};
+ghost use Rattle.std.specs.Prelude.{◌≡◌, ◌<◌, ◌≤◌, ◌-◌, ◌^◌, IfOk};
+ghost use Rattle.hall_answers.specs.HasSerials.{HasSerials};
+ghost use Rattle.admin_asks.specs.UserAdd.{check_built, check_name_free, check_new_user, user_text, derived, answer_to_new_user, due_user_add, IsKeepable};
 
-use crate::answer::Answer;
-use crate::refusal::Refusal;
-use crate::refused::{plain, refused};
-use crate::users::add_password;
-use facts::{
-    Action, Fact, Facts, Finding, OtpSecret, PasswordHash, What, account_named, last_stored_serial,
-};
-use login_base::{Duplicate, Memory, Name, Sequence, Steps, UserId};
+use crate::account::add_account;
+use fact_scans::{account_named, last_stored_serial};
+use facts::{Facts, Finding, NewUser, PasswordHash, What};
+use hall_answers::{Answer, Refusal, Setting, refused};
+use login_base::{Memory, Name, Sequence, Steps, UserId};
 use std::alloc::Global;
 use std::sync::ledger::Ledger;
 
 /// Neither a one-time secret nor an action can be given to a user yet.
-#[tactic(auto, unfolding(crate::specs::UserAdd::without_setup))]
-fn without_setup(otp: &Option<OtpSecret>, actions: &Sequence<Action>) -> Result<(), Refusal>
-    ensures { result ≡ without_setup otp.now actions.now }
+#[tactic(auto, unfolding(crate::specs::UserAdd::check_built))]
+fn check_built(new: &NewUser) -> Result<(), Refusal>
+    ensures { result ≡ check_built new.now }
 {
-    if otp.is_some() || !actions.is_empty() {
+    if new.otp.is_some() || !new.actions.is_empty() {
         return Err(Refusal::NotBuilt);
     }
     Ok(())
 }
 
 /// No account has the name.
-#[tactic(auto, unfolding(crate::specs::UserAdd::name_free))]
-fn name_free<L: Ledger>(facts: &Facts<'_>, name: &Name, steps: &mut Steps<L>) -> Result<(), Refusal>
-    ensures { result ≡ name_free facts.now name.now }
+#[tactic(auto, unfolding(crate::specs::UserAdd::check_name_free))]
+fn check_name_free<L: Ledger>(
+    facts: &Facts<'_>,
+    name: &Name,
+    steps: &mut Steps<L>,
+) -> Result<(), Refusal>
+    ensures { result ≡ check_name_free facts.now name.now }
 {
     if account_named(facts, name, steps).is_some() {
         return Err(Refusal::UserTaken);
@@ -37,20 +37,18 @@ fn name_free<L: Ledger>(facts: &Facts<'_>, name: &Name, steps: &mut Steps<L>) ->
 }
 
 /// The new account, or the first refusal.
-#[tactic(auto, unfolding(crate::specs::UserAdd::new_user))]
-fn new_user<L: Ledger>(
+#[tactic(auto, unfolding(crate::specs::UserAdd::check_new_user))]
+fn check_new_user<L: Ledger>(
     facts: &Facts<'_>,
-    name: &Name,
-    otp: &Option<OtpSecret>,
-    actions: &Sequence<Action>,
+    new: &NewUser,
     steps: &mut Steps<L>,
 ) -> Result<UserId, Refusal>
-    requires { last_stored_serial facts.now ≤ 2 ^ 63 - 8 }
-    ensures user { result ≡ new_user facts.now name.now otp.now actions.now }
+    requires serials { HasSerials facts.now (2 ^ 63 - 8) }
+    ensures user { result ≡ check_new_user facts.now new.now }
     ensures small { IfOk result (λ user. user.0 ≤ 2 ^ 63 - 7) }
 {
-    without_setup(otp, actions)?;
-    name_free(facts, name, steps)?;
+    check_built(new)?;
+    check_name_free(facts, &new.name, steps)?;
     Ok(UserId(last_stored_serial(facts) + 1))
 }
 
@@ -77,52 +75,43 @@ fn derived(finding: &Finding) -> Option<PasswordHash>
             iterations,
             digest,
         } => PasswordHash::new(salt, *iterations, *digest),
-        _ => None,
+        Finding::None | Finding::Checked { .. } => None,
     }
 }
 
-/// The account is put, and its password is set where the ask had one.
-fn user_added(
+/// The account is added, with the password that the ask set.
+fn answer_to_new_user(
     alloc: Global,
-    name: &Name,
-    roles: &Sequence<Name>,
+    new: &NewUser,
     finding: &Finding,
     user: UserId,
 ) -> Result<Answer, Memory>
     requires keepable { IsKeepable finding.now }
     requires serial { user.0 < 2 ^ 64 - 1 }
-    ensures { IfOk result (λ answer. answer ≡ user_added name.now roles.now finding.now user) }
+    ensures { IfOk result (λ answer. answer ≡ answer_to_new_user new.now finding.now user) }
 {
-    let text = user_text(alloc, name, user)?;
+    let text = user_text(alloc, &new.name, user)?;
     let mut added = Sequence::new(alloc);
-    added.push(Fact::UserPut {
-        user,
-        name: name.duplicate(alloc)?,
-        roles: roles.duplicate(alloc)?,
-    })?;
-    add_password(&mut added, user, &derived(finding))?;
-    let reply = plain(What::Told { text });
-    Ok(Answer { reply, added })
+    let password = derived(finding);
+    add_account(alloc, &mut added, user, &new.name, &new.roles, true, &password)?;
+    Ok(Answer::plain(What::Told { text }, added))
 }
 
 /// What the adding of a user is due.
 #[tactic(auto, unfolding(crate::specs::UserAdd::due_user_add))]
 pub(crate) fn due_user_add<L: Ledger>(
-    alloc: Global,
-    facts: &Facts<'_>,
-    name: &Name,
-    otp: &Option<OtpSecret>,
-    roles: &Sequence<Name>,
-    actions: &Sequence<Action>,
+    setting: &Setting<'_>,
+    new: &NewUser,
     finding: &Finding,
     steps: &mut Steps<L>,
 ) -> Result<Answer, Memory>
-    requires serial { last_stored_serial facts.now ≤ 2 ^ 63 - 8 }
+    requires serials { HasSerials setting.now.facts (2 ^ 63 - 8) }
     requires keepable { IsKeepable finding.now }
-    ensures { IfOk result (λ answer. answer ≡ due_user_add facts.now name.now otp.now roles.now actions.now finding.now) }
+    ensures { IfOk result (λ answer. answer ≡ due_user_add setting.now new.now finding.now) }
 {
-    match new_user(facts, name, otp, actions, steps) {
-        Ok(user) => user_added(alloc, name, roles, finding, user),
-        Err(refusal) => refused(alloc, facts, refusal, steps),
+    let facts = setting.facts();
+    match check_new_user(&facts, new, steps) {
+        Ok(user) => answer_to_new_user(setting.alloc, new, finding, user),
+        Err(refusal) => refused(setting.alloc, &facts, None, refusal, steps),
     }
 }

@@ -1,11 +1,10 @@
 ghost use Rattle.std.specs.Prelude.{◌≡◌};
 ghost use Rattle.std.specs.Option.{option_copied};
-ghost use Rattle.facts.specs.Accounts.{account_named, name_of, is_disabled};
+ghost use Rattle.facts.specs.Accounts.{account_named, name_of, roles_of, is_disabled};
 
-use crate::fact::Fact;
-use crate::facts::Facts;
-use crate::scan::{Hold, Pick, last_by, last_held};
-use login_base::{Name, Steps, UserId};
+use crate::scan::{Pick, last_by, last_held};
+use facts::{Fact, Facts, Hold};
+use login_base::{Name, Sequence, Steps, UserId};
 use std::sync::ledger::Ledger;
 
 /// Picks the user who is put under a name.
@@ -30,7 +29,7 @@ impl<'a> Pick for UserPutAs<'a> {
 }
 
 /// The account of a name.
-#[tactic(auto, unfolding(crate::specs::Accounts::account_named))]
+#[tactic(auto, unfolding(facts::specs::Accounts::account_named))]
 pub fn account_named<L: Ledger>(
     facts: &Facts<'_>,
     name: &Name,
@@ -63,7 +62,7 @@ impl Hold for NamePut {
 }
 
 /// The name of a user.
-#[tactic(auto, unfolding(crate::specs::Accounts::name_of))]
+#[tactic(auto, unfolding(facts::specs::Accounts::name_of))]
 pub fn name_of<'a, L: Ledger>(
     facts: &Facts<'a>,
     user: UserId,
@@ -72,6 +71,39 @@ pub fn name_of<'a, L: Ledger>(
     ensures value { option_copied result ≡ name_of user facts.now }
 {
     last_held(facts, &NamePut { user }, steps)
+}
+
+/// Finds the roles that a user is put with.
+#[derive(Clone, Copy, Debug)]
+struct RolesPut {
+    user: UserId,
+}
+
+impl Hold for RolesPut {
+    ghost use Rattle.facts.specs.Accounts.{roles_put};
+
+    type Held = Sequence<Name>;
+
+    ghost held = { λ p. roles_put p.user };
+
+    fn of<'a>(&self, fact: &'a Fact) -> Option<&'a Sequence<Name>> {
+        match fact {
+            Fact::UserPut { user, roles, .. } if user.0 == self.user.0 => Some(roles),
+            _ => None,
+        }
+    }
+}
+
+/// The roles of a user.
+#[tactic(auto, unfolding(facts::specs::Accounts::roles_of))]
+pub fn roles_of<'a, L: Ledger>(
+    facts: &Facts<'a>,
+    user: UserId,
+    steps: &mut Steps<L>,
+) -> Option<&'a Sequence<Name>>
+    ensures value { option_copied result ≡ roles_of user facts.now }
+{
+    last_held(facts, &RolesPut { user }, steps)
 }
 
 /// Picks whether a user is disabled or enabled.
@@ -97,7 +129,7 @@ impl Pick for DisabledBy {
 }
 
 /// Whether a user is disabled: the last fact that disables or enables it disables it.
-#[tactic(auto, unfolding(crate::specs::Accounts::is_disabled))]
+#[tactic(auto, unfolding(facts::specs::Accounts::is_disabled))]
 pub fn is_disabled<L: Ledger>(facts: &Facts<'_>, user: UserId, steps: &mut Steps<L>) -> bool
     ensures value { result ≡ is_disabled user facts.now }
 {

@@ -1,23 +1,60 @@
 ghost use Rattle.std.specs.Prelude.{◌≡◌};
-ghost use Rattle.facts.specs.Evidence.{rests_on, is_by, is_passed, is_voided, has_evidence};
+ghost use Rattle.facts.specs.Evidence.{is_by, has_evidence};
+ghost use Rattle.fact_scans.specs.Counting.{nothing, some_counts, with_kind, without_kind, is_own, is_foreign};
 
-use crate::fact::Fact;
-use crate::facts::Facts;
-use crate::scan::{Fold, fold_by};
-use crate::secret::SecretKind;
-use flow_tree::Kind;
+use crate::scan::fold_by;
+use facts::{Fact, Facts, Fold, SecretKind};
 use login_base::{Name, Steps, TabKey, UserId, same_id};
 use std::sync::ledger::Ledger;
 
-fn rests_on(kind: Kind, secret: SecretKind) -> bool
-    ensures { result ≡ rests_on kind secret }
-{
-    match (kind, secret) {
-        (Kind::Password, SecretKind::Password) => true,
-        (Kind::Form, SecretKind::Password) => true,
-        (Kind::Otp, SecretKind::Otp) => true,
-        (Kind::Recovery, SecretKind::Recovery) => true,
-        _ => false,
+/// Which accepted posts of a user for an execution count in a tab, by the secrets that they rest
+/// on.
+#[derive(Clone, Copy, Debug, PartialEq, Eq)]
+pub struct Counting {
+    /// Some rests on no secret.
+    pub lasting: bool,
+    pub password: bool,
+    pub otp: bool,
+    pub recovery: bool,
+}
+
+impl Counting {
+    fn nothing() -> Counting
+        ensures { result ≡ nothing }
+    {
+        Counting {
+            lasting: false,
+            password: false,
+            otp: false,
+            recovery: false,
+        }
+    }
+
+    fn some_counts(self) -> bool
+        ensures { result ≡ some_counts self }
+    {
+        self.lasting || self.password || self.otp || self.recovery
+    }
+
+    fn with_kind(self, kind: Option<SecretKind>) -> Counting
+        ensures { result ≡ with_kind self kind }
+    {
+        match kind {
+            None => Counting { lasting: true, ..self },
+            Some(SecretKind::Password) => Counting { password: true, ..self },
+            Some(SecretKind::Otp) => Counting { otp: true, ..self },
+            Some(SecretKind::Recovery) => Counting { recovery: true, ..self },
+        }
+    }
+
+    fn without_kind(self, kind: SecretKind) -> Counting
+        ensures { result ≡ without_kind self kind }
+    {
+        match kind {
+            SecretKind::Password => Counting { password: false, ..self },
+            SecretKind::Otp => Counting { otp: false, ..self },
+            SecretKind::Recovery => Counting { recovery: false, ..self },
+        }
     }
 }
 
@@ -30,69 +67,63 @@ fn is_by(tab: TabKey, by: &Option<TabKey>) -> bool
     }
 }
 
-/// Carries whether an accepted post of a user for an execution counts in a tab.
+/// Carries what counts of a user's accepted posts for an execution in a tab.
 #[derive(Clone, Copy)]
-struct Counts<'a> {
+struct Evidence<'a> {
     tab: TabKey,
     user: UserId,
     id: &'a Name,
-    kind: Kind,
 }
 
-impl<'a> Counts<'a> {
-    fn is_passed(&self, tab: &TabKey, user: UserId, execution: &Name) -> bool
-        ensures { result ≡ is_passed self.now.tab self.now.user self.now.id.now tab.now user execution.now }
+impl<'a> Evidence<'a> {
+    fn is_own(&self, tab: &TabKey, user: UserId, execution: &Name) -> bool
+        ensures { result ≡ is_own self.now.tab self.now.user self.now.id.now tab.now user execution.now }
     {
         same_id(&tab.0, &self.tab.0) && user.0 == self.user.0 && *execution == *self.id
     }
 
-    fn is_voided(&self, user: UserId, secret: SecretKind, by: &Option<TabKey>) -> bool
-        ensures { result ≡ is_voided self.now.tab self.now.user self.now.kind user secret by.now }
+    fn is_foreign(&self, user: UserId, by: &Option<TabKey>) -> bool
+        ensures { result ≡ is_foreign self.now.tab self.now.user user by.now }
     {
-        user.0 == self.user.0 && rests_on(self.kind, secret) && !is_by(self.tab, by)
+        user.0 == self.user.0 && !is_by(self.tab, by)
     }
 }
 
-impl<'a> Fold for Counts<'a> {
-    ghost use Rattle.facts.specs.Evidence.{counts_after};
+impl<'a> Fold for Evidence<'a> {
+    ghost use Rattle.fact_scans.specs.Counting.{counting_after};
 
-    type Carried = bool;
+    type Carried = Counting;
 
-    ghost carry = { λ c. counts_after c.tab c.user c.id.now c.kind };
+    ghost carry = { λ e. counting_after e.tab e.user e.id.now };
 
-    fn after(&self, carried: &mut bool, fact: &Fact) {
+    fn after(&self, carried: &mut Counting, fact: &Fact) {
         match fact {
             Fact::Passed {
                 tab,
                 execution,
                 user,
+                kind,
                 ..
-            } => *carried = *carried || self.is_passed(tab, *user, execution),
-            Fact::SecretSet { user, kind, by, .. } => *carried = *carried
-                && !self.is_voided(*user, *kind, by),
+            } if self.is_own(tab, *user, execution) => *carried = carried.with_kind(*kind),
+            Fact::SecretSet { user, kind, by, .. } if self.is_foreign(*user, by) => {
+                *carried = carried.without_kind(*kind);
+            }
             _ => {}
         }
     }
 }
 
-/// Whether an accepted post of the user for an execution of this kind counts in the tab: the
-/// user's secret on which it rests wasn't changed since by anything but this tab.
-#[tactic(auto, unfolding(crate::specs::Evidence::has_evidence))]
+/// Whether an accepted post of the user for the execution counts in the tab: the user's secret on
+/// which it rests wasn't changed since by anything but this tab.
+#[tactic(auto, using(crate::proofs::EvidenceLemmas::evidence_counted))]
 pub fn has_evidence<L: Ledger>(
     facts: &Facts<'_>,
     tab: TabKey,
     user: UserId,
     id: &Name,
-    kind: Kind,
     steps: &mut Steps<L>,
 ) -> bool
-    ensures value { result ≡ has_evidence tab user id.now kind facts.now }
+    ensures value { result ≡ has_evidence tab user id.now facts.now }
 {
-    let counts = Counts {
-        tab,
-        user,
-        id,
-        kind,
-    };
-    fold_by(facts, &counts, false, steps)
+    fold_by(facts, &Evidence { tab, user, id }, Counting::nothing(), steps).some_counts()
 }

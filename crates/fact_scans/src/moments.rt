@@ -1,10 +1,9 @@
 ghost use Rattle.std.specs.Prelude.{◌≡◌};
 ghost use Rattle.facts.specs.Moments.{last_used_moment};
 
-use crate::fact::Fact;
-use crate::facts::Facts;
 use crate::scan::{Pick, last_by};
-use login_base::Steps;
+use facts::{Fact, Facts};
+use login_base::{Moment, Steps};
 use std::sync::ledger::Ledger;
 
 /// Picks the used moment of a mark.
@@ -14,11 +13,11 @@ struct UsedMoment;
 impl Pick for UsedMoment {
     ghost use Rattle.facts.specs.Moments.{used_by};
 
-    type Out = u64;
+    type Out = Moment;
 
     ghost pick = { λ _. used_by };
 
-    fn of(&self, fact: &Fact) -> Option<u64> {
+    fn of(&self, fact: &Fact) -> Option<Moment> {
         match fact {
             Fact::Mark { used_moment, .. } => Some(*used_moment),
             _ => None,
@@ -27,9 +26,9 @@ impl Pick for UsedMoment {
 }
 
 /// The used moment of the last mark, 0 where there is none.
-#[tactic(auto, unfolding(crate::specs::Moments::last_used_moment))]
-pub fn last_used_moment<L: Ledger>(facts: &Facts<'_>, steps: &mut Steps<L>) -> u64
+#[tactic(auto, unfolding(facts::specs::Moments::last_used_moment))]
+pub fn last_used_moment<L: Ledger>(facts: &Facts<'_>, steps: &mut Steps<L>) -> Moment
     ensures value { result ≡ last_used_moment facts.now }
 {
-    last_by(facts, &UsedMoment, steps).unwrap_or(0)
+    last_by(facts, &UsedMoment, steps).unwrap_or(Moment::ZERO)
 }

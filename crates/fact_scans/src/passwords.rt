@@ -1,20 +1,10 @@
 ghost use Rattle.std.specs.Prelude.{◌≡◌};
 ghost use Rattle.facts.specs.Secrets.{kept_password, password_of};
 
-use crate::fact::Fact;
-use crate::facts::Facts;
-use crate::password_hash::PasswordHash;
 use crate::scan::{Pick, last_by};
-use crate::secret::{Secret, SecretKind};
+use facts::{Fact, Facts, Secret, SecretKind, UserPassword};
 use login_base::{Steps, UserId};
 use std::sync::ledger::Ledger;
-
-/// The password that a user has, with the serial that it was set with.
-#[derive(Clone, Copy, Debug)]
-pub struct UserPassword {
-    pub serial: u64,
-    pub hash: PasswordHash,
-}
 
 /// Picks what a change of a user's password leaves.
 #[derive(Clone, Copy, Debug)]
@@ -56,7 +46,7 @@ impl Pick for PasswordSet {
 }
 
 /// The password that a user has.
-#[tactic(auto, unfolding(crate::specs::Secrets::password_of))]
+#[tactic(auto, unfolding(facts::specs::Secrets::password_of))]
 pub fn password_of<L: Ledger>(
     facts: &Facts<'_>,
     user: UserId,

@@ -1,25 +1,14 @@
 ghost use Rattle.std.specs.Prelude.{◌≡◌, Some, fold, if◌then◌else◌};
-ghost use Rattle.facts.specs.Tabs.{is_root, seen_at, ended_by, session_after, is_live, live_session, who_of, tab_after, are_new, tab_state};
+ghost use Rattle.facts.specs.Tabs.{is_root, seen_at, ended_by, session_after, tab_after, are_new, tab_state};
 ghost use Rattle.login_base.specs.IdText.{same_id};
 
-use crate::chronicle::Chronicle;
-use crate::fact::Fact;
-use crate::facts::Facts;
-use crate::scan::{Fold, fold_by, fold_in};
-use login_base::{Code, RootKey, SessionId, Steps, TabKey, UserId, same_id};
+use crate::scan::fold_by;
+use facts::{Chronicle, Fact, Facts, Fold, Opening, RootSession, TabState, fold_in};
+use login_base::{Moment, RootKey, SessionId, Steps, TabKey, UserId, same_id};
 use std::sync::ledger::Ledger;
 
-impl TabState {
-    /// What is known of a tab of a root, where this was known before these facts.
-    pub fn with(self, root: RootKey, tab: TabKey, more: &[Fact]) -> TabState
-        ensures value { result ≡ fold (tab_after root tab) self more.now }
-    {
-        fold_in(more, &TabOf { root, tab }, self)
-    }
-}
-
 /// A use of a session at a moment moves its last use.
-fn seen_at(own: Option<RootSession>, session: &SessionId, moment: u64) -> Option<RootSession>
+fn seen_at(own: Option<RootSession>, session: &SessionId, moment: Moment) -> Option<RootSession>
     ensures { result ≡ seen_at session.now moment own }
 {
     match own {
@@ -116,11 +105,14 @@ impl Fold for TabOf {
                 tab,
                 version,
                 level,
-                ..
+                life,
+                moment,
             } if self.is_tab(tab) => {
                 let new = Opening {
                     version: *version,
                     level: *level,
+                    life: *life,
+                    moment: *moment,
                 };
                 carried.opening = self.opening(root, new, carried.opening);
                 carried.completed = false;
@@ -146,7 +138,7 @@ fn are_new(chronicle: &Chronicle, root: RootKey, tab: TabKey) -> bool
 
 /// What is known of a tab of a root. Where both are newer than all that the chronicle names, its
 /// facts aren't read.
-#[tactic(auto, unfolding(crate::specs::Tabs::tab_state), using(crate::proofs::TabLemmas::new_tab_more))]
+#[tactic(auto, unfolding(facts::specs::Tabs::tab_state), using(facts::proofs::TabLemmas::new_tab_more))]
 pub fn tab_state<L: Ledger>(
     facts: &Facts<'_>,
     root: RootKey,
@@ -163,9 +155,17 @@ pub fn tab_state<L: Ledger>(
         session: None,
     };
     let of = TabOf { root, tab };
-    if are_new(facts.chronicle, root, tab) {
-        fold_in(facts.more, &of, nothing)
+    let (chronicle, more) = facts.parts();
+    if are_new(chronicle, root, tab) {
+        fold_in(more, &of, nothing)
     } else {
         fold_by(facts, &of, nothing, steps)
     }
+}
+
+/// What is known of a tab of a root, where this was known before these facts.
+pub fn tab_state_with(state: TabState, root: RootKey, tab: TabKey, more: &[Fact]) -> TabState
+    ensures value { result ≡ fold (tab_after root tab) state more.now }
+{
+    fold_in(more, &TabOf { root, tab }, state)
 }

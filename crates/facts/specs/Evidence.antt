@@ -31,7 +31,7 @@ is_secret (Some kind) changed = same_secret kind changed
 
 -- it changes the user's secret of this kind, by anything but this tab
 abbrev pub voids : TabKey → UserId → Option SecretKind → Fact → Bool
-voids tab user kind (events.SecretSet of changed serial secret by) = of.0 == user.0 && is_secret kind changed && not (is_by tab by)
+voids tab user kind (events.SecretSet of changed serial secret by) = is_secret kind changed && of.0 == user.0 && not (is_by tab by)
 voids tab user kind event = false
 
 -- a post of the user for the execution was accepted in the tab, and no later change of the secret on which it rests,

@@ -1,5 +1,5 @@
 -- Refusals, tried one after the other.
-use Rattle.std.specs.Prelude.{List, [], Result, Ok, Err, codes, unwrap_or}
+use Rattle.std.specs.Prelude.{List, Option, Result, Ok, Err, codes, unwrap_or}
 use Rattle.login_base.specs.declared.id.TabKey.{TabKey}
 use Rattle.login_base.specs.declared.id.UserId.{UserId}
 use Rattle.facts.specs.declared.fact.Fact.{Fact}
@@ -8,10 +8,10 @@ use Rattle.facts.specs.declared.reply.What.TheVariants as whats
 use Rattle.facts.specs.declared.reply.Who.{Who}
 use Rattle.facts.specs.declared.rule.Rule.TheVariants as rules
 use Rattle.facts.specs.Accounts.{name_of}
-use Rattle.login_hall.specs.declared.answer.Answer.{Answer}
-use Rattle.login_hall.specs.declared.refusal.Refusal.{Refusal}
-use Rattle.login_hall.specs.declared.refusal.Refusal.TheVariants as refusals
-use Rattle.login_hall.specs.Plain.{only, in_tab}
+use Rattle.hall_answers.specs.declared.answer.Answer.{Answer}
+use Rattle.hall_answers.specs.declared.refusal.Refusal.{Refusal}
+use Rattle.hall_answers.specs.declared.refusal.Refusal.TheVariants as refusals
+use Rattle.hall_answers.specs.Answers.{only}
 
 -- the first refusal stands
 infixl 10 ◌>>=◌
@@ -37,16 +37,11 @@ what_of facts refusals.NotAsked = whats.NotAsked
 what_of facts refusals.Disabled = whats.Disabled
 what_of facts (refusals.CredentialMoved had now) = whats.CredentialMoved had now
 
--- what a refused ask is due: the refusal alone
-abbrev pub refused : List Fact → Refusal → Answer
-refused facts refusal = only (what_of facts refusal)
+-- what a refused ask is due, in a tab or in none: the refusal alone
+abbrev pub refused : List Fact → Option TabKey → Refusal → Answer
+refused facts tab refusal = only tab (what_of facts refusal)
 
 -- the answer where nothing is refused, else the refusal's
-abbrev pub settled : {A : Type 0} → List Fact → (A → Answer) → Result A Refusal → Answer
-settled facts answer (Ok x) = answer x
-settled facts answer (Err refusal) = refused facts refusal
-
--- the same in a known tab, which the reply names
-abbrev pub settled_in : {A : Type 0} → List Fact → TabKey → (A → Answer) → Result A Refusal → Answer
-settled_in facts tab answer (Ok x) = answer x
-settled_in facts tab answer (Err refusal) = record { reply = in_tab tab (what_of facts refusal); added = [] }
+abbrev pub settled : {A : Type 0} → List Fact → Option TabKey → (A → Answer) → Result A Refusal → Answer
+settled facts tab answer (Ok x) = answer x
+settled facts tab answer (Err refusal) = refused facts tab refusal

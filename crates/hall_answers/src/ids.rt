@@ -1,58 +1,59 @@
-ghost use Rattle.std.specs.Prelude.{◌≡◌, ◌<◌, ◌≤◌, ◌^◌};
-ghost use Rattle.facts.specs.Serials.{last_tab_serial, last_stored_serial};
-ghost use Rattle.login_hall.specs.Ids.{id_at, root_key, tab_key, code_at, session_at, next_code, next_session};
+ghost use Rattle.std.specs.Prelude.{◌≡◌, ◌<◌, ◌^◌};
+ghost use Rattle.hall_answers.specs.HasSerials.{HasSerials};
+ghost use Rattle.hall_answers.specs.Ids.{id_at, root_key, tab_key, code_at, session_at, next_code, next_session};
 
-use facts::{Facts, last_stored_serial, last_tab_serial};
-use login_base::{Code, Id, RootKey, SessionId, TabKey, Words};
+use fact_scans::{last_stored_serial, last_tab_serial};
+use facts::Facts;
+use login_base::{Code, Draws, Id, RootKey, SessionId, TabKey};
 
-/// The id of a serial, with the words at two places.
-fn id_at(serial: u64, place: usize, words: &Words) -> Id
+/// The id of a serial, with the draws at two places.
+fn id_at(serial: u64, place: usize, draws: &Draws) -> Id
     requires { place < 9 }
-    ensures { result ≡ id_at serial place words.now }
+    ensures { result ≡ id_at serial place draws.now }
 {
     Id {
         serial,
-        high: words.0[place],
-        low: words.0[place + 1],
+        high: draws.0[place],
+        low: draws.0[place + 1],
     }
 }
 
-pub(crate) fn root_key(serial: u64, words: &Words) -> RootKey
-    ensures { result ≡ root_key serial words.now }
+pub fn root_key(serial: u64, draws: &Draws) -> RootKey
+    ensures value { result ≡ root_key serial draws.now }
 {
-    RootKey(id_at(serial, 0, words))
+    RootKey(id_at(serial, 0, draws))
 }
 
-pub(crate) fn tab_key(serial: u64, words: &Words) -> TabKey
-    ensures { result ≡ tab_key serial words.now }
+pub fn tab_key(serial: u64, draws: &Draws) -> TabKey
+    ensures value { result ≡ tab_key serial draws.now }
 {
-    TabKey(id_at(serial, 2, words))
+    TabKey(id_at(serial, 2, draws))
 }
 
-fn code_at(serial: u64, words: &Words) -> Code
-    ensures { result ≡ code_at serial words.now }
+fn code_at(serial: u64, draws: &Draws) -> Code
+    ensures { result ≡ code_at serial draws.now }
 {
-    Code(id_at(serial, 4, words))
+    Code(id_at(serial, 4, draws))
 }
 
-fn session_at(serial: u64, words: &Words) -> SessionId
-    ensures { result ≡ session_at serial words.now }
+fn session_at(serial: u64, draws: &Draws) -> SessionId
+    ensures { result ≡ session_at serial draws.now }
 {
-    SessionId(id_at(serial, 6, words))
+    SessionId(id_at(serial, 6, draws))
 }
 
 /// A new code.
-pub(crate) fn next_code(facts: &Facts<'_>, words: &Words) -> Code
-    requires { last_tab_serial facts.now ≤ 2 ^ 63 }
-    ensures { result ≡ next_code facts.now words.now }
+pub fn next_code(facts: &Facts<'_>, draws: &Draws) -> Code
+    requires serials { HasSerials facts.now (2 ^ 63) }
+    ensures value { result ≡ next_code facts.now draws.now }
 {
-    code_at(last_tab_serial(facts) + 1, words)
+    code_at(last_tab_serial(facts) + 1, draws)
 }
 
 /// The id of a new session.
-pub(crate) fn next_session(facts: &Facts<'_>, words: &Words) -> SessionId
-    requires { last_stored_serial facts.now ≤ 2 ^ 63 }
-    ensures { result ≡ next_session facts.now words.now }
+pub fn next_session(facts: &Facts<'_>, draws: &Draws) -> SessionId
+    requires serials { HasSerials facts.now (2 ^ 63) }
+    ensures value { result ≡ next_session facts.now draws.now }
 {
-    session_at(last_stored_serial(facts) + 1, words)
+    session_at(last_stored_serial(facts) + 1, draws)
 }

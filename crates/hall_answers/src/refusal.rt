@@ -2,7 +2,7 @@ use login_base::{Code, UserId};
 
 /// Why an ask is refused.
 #[derive(Clone, Copy, Debug, PartialEq, Eq)]
-pub(crate) enum Refusal {
+pub enum Refusal {
     /// The ask has a part that isn't built yet.
     NotBuilt,
     /// The administrator's key isn't the realm's.

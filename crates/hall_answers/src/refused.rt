@@ -1,63 +1,22 @@
-ghost use Rattle.std.specs.Prelude.{◌≡◌, [], IfOk};
-ghost use Rattle.facts.specs.declared.reply.What.TheVariants as whats;
-ghost use Rattle.login_hall.specs.Plain.{plain, in_tab, only};
-ghost use Rattle.login_hall.specs.Refusals.{who_named, what_of, refused};
+ghost use Rattle.std.specs.Prelude.{◌≡◌, IfOk};
+ghost use Rattle.hall_answers.specs.Refusals.{who_named, what_of, refused};
 
 use crate::answer::Answer;
 use crate::refusal::Refusal;
-use facts::{Facts, Reply, Rule, What, Who, name_of};
-use login_base::{Duplicate, Memory, Name, Sequence, Steps, TabKey, UserId};
+use fact_scans::name_of;
+use facts::{Facts, Rule, What, Who};
+use login_base::{Duplicate, Memory, Name, Steps, TabKey, UserId};
 use std::alloc::Global;
 use std::sync::ledger::Ledger;
 
-/// A reply that names no tab.
-pub(crate) fn plain(what: What) -> Reply
-    ensures { result ≡ plain what }
-{
-    Reply {
-        tab: None,
-        opened: None,
-        what,
-    }
-}
-
-/// A reply in a tab.
-pub(crate) fn in_tab(tab: TabKey, what: What) -> Reply
-    ensures { result ≡ in_tab tab what }
-{
-    Reply {
-        tab: Some(tab),
-        opened: None,
-        what,
-    }
-}
-
-/// A reply that names no tab, and no facts.
-pub(crate) fn only(alloc: Global, what: What) -> Answer
-    ensures { result ≡ only what }
-{
-    Answer {
-        reply: plain(what),
-        added: Sequence::new(alloc),
-    }
-}
-
-/// What a malformed ask is due.
-pub(crate) fn due_bad(alloc: Global, at: &Name) -> Result<Answer, Memory>
-    ensures { IfOk result (λ answer. answer ≡ only (whats.BadForm at.now)) }
-{
-    let at = at.duplicate(alloc)?;
-    Ok(only(alloc, What::BadForm { at }))
-}
-
 /// A user by name.
-pub(crate) fn who_named<L: Ledger>(
+pub fn who_named<L: Ledger>(
     alloc: Global,
     facts: &Facts<'_>,
     user: UserId,
     steps: &mut Steps<L>,
 ) -> Result<Who, Memory>
-    ensures { IfOk result (λ who. who ≡ who_named facts.now user) }
+    ensures ok { IfOk result (λ who. who ≡ who_named facts.now user) }
 {
     let name = match name_of(facts, user, steps) {
         Some(name) => name.duplicate(alloc)?,
@@ -67,7 +26,7 @@ pub(crate) fn who_named<L: Ledger>(
 }
 
 /// What a refusal says.
-pub(crate) fn what_of<L: Ledger>(
+fn what_of<L: Ledger>(
     alloc: Global,
     facts: &Facts<'_>,
     refusal: Refusal,
@@ -99,30 +58,15 @@ pub(crate) fn what_of<L: Ledger>(
     })
 }
 
-/// What a refused ask is due.
-pub(crate) fn refused<L: Ledger>(
+/// What a refused ask is due, in a tab or in none.
+pub fn refused<L: Ledger>(
     alloc: Global,
     facts: &Facts<'_>,
+    tab: Option<TabKey>,
     refusal: Refusal,
     steps: &mut Steps<L>,
 ) -> Result<Answer, Memory>
-    ensures { IfOk result (λ answer. answer ≡ refused facts.now refusal) }
+    ensures ok { IfOk result (λ answer. answer ≡ refused facts.now tab refusal) }
 {
-    Ok(only(alloc, what_of(alloc, facts, refusal, steps)?))
-}
-
-/// What an ask in a known tab is due that is refused.
-pub(crate) fn refused_in<L: Ledger>(
-    alloc: Global,
-    facts: &Facts<'_>,
-    tab: TabKey,
-    refusal: Refusal,
-    steps: &mut Steps<L>,
-) -> Result<Answer, Memory>
-    ensures { IfOk result (λ answer. answer ≡ record { reply = in_tab tab (what_of facts.now refusal); added = [] }) }
-{
-    Ok(Answer {
-        reply: in_tab(tab, what_of(alloc, facts, refusal, steps)?),
-        added: Sequence::new(alloc),
-    })
+    Ok(Answer::only(alloc, tab, what_of(alloc, facts, refusal, steps)?))
 }

@@ -5,7 +5,7 @@ use Rattle.std.specs.Str.{bytes_eq}
 use Rattle.login_base.specs.declared.id.RootKey.{RootKey}
 use Rattle.login_base.specs.declared.id.TabKey.{TabKey}
 use Rattle.login_base.specs.declared.id.UserId.{UserId}
-use Rattle.login_base.specs.declared.words.Words.{Words}
+use Rattle.login_base.specs.declared.draws.Draws.{Draws}
 use Rattle.facts.specs.declared.ask.Ask.{Ask}
 use Rattle.facts.specs.declared.ask.Ask.TheVariants as asks
 use Rattle.facts.specs.declared.ask.Form.{Form}
@@ -14,22 +14,23 @@ use Rattle.facts.specs.declared.finding.Finding.{Finding}
 use Rattle.facts.specs.declared.finding.Finding.TheVariants as findings
 use Rattle.facts.specs.declared.finding.PasswordUse.{PasswordUse}
 use Rattle.facts.specs.declared.finding.PasswordUse.TheVariants as uses
-use Rattle.facts.specs.declared.passwords.UserPassword.{UserPassword}
+use Rattle.facts.specs.declared.user_password.UserPassword.{UserPassword}
 use Rattle.facts.specs.declared.tabs.Opening.{Opening}
 use Rattle.facts.specs.declared.tabs.TabState.{TabState}
-use Rattle.facts.specs.Passwords.{password_use, password_text, emptied, is_iterations}
+use Rattle.realm_data.specs.PasswordHash.{is_iterations}
+use Rattle.facts.specs.Passdraws.{password_use, password_text, emptied}
 use Rattle.facts.specs.Solved.{SolvedAsk}
 use Rattle.facts.specs.Tabs.{tab_state, who_of}
 use Rattle.mac_kit.specs.Pbkdf2.{pbkdf2_sha256}
-use Rattle.login_hall.specs.Forms.{named_by, target_of}
-use Rattle.login_hall.specs.PasswordFor.{password_for}
-use Rattle.login_hall.specs.Realms.{realm_now}
+use Rattle.hall_answers.specs.Setting.{realm_now}
+use Rattle.login_progress.specs.PasswordFor.{password_for}
+use Rattle.tab_asks.specs.Forms.{named_by, target_of}
 use Rattle.login_hall.specs.declared.task.Task.{Task}
 use Rattle.login_hall.specs.declared.task.Task.TheVariants as tasks
 
--- the salt of an ask: the words 8 and 9
-abbrev pub salt_of : Words → List ℕ
-salt_of words = to_be_bytes w64 (slice_index words.0 8) ++ to_be_bytes w64 (slice_index words.0 9)
+-- the salt of an ask: the draws 8 and 9
+abbrev pub salt_of : Draws → List ℕ
+salt_of draws = to_be_bytes w64 (slice_index draws.0 8) ++ to_be_bytes w64 (slice_index draws.0 9)
 
 -- whose login it is in a tab of a root at a moment, where the root has the tab
 abbrev pub who_among : ℕ → TabState → Option Opening → Option UserId
@@ -46,18 +47,24 @@ form_target chronicle moment root tab form = target_of (named_by chronicle form)
 
 -- the account whose password an ask checks
 unfoldable pub checked_user : List Fact → ℕ → Ask → Option UserId
-checked_user chronicle moment (asks.Post root tab code form) = form_target chronicle moment root tab form
-checked_user chronicle moment ask = None
+checked_user chronicle moment (asks.Post post) = form_target chronicle moment post.root post.tab post.form
+checked_user chronicle moment (asks.Bad at) = None
+checked_user chronicle moment (asks.NewTab new) = None
+checked_user chronicle moment (asks.Page root tab) = None
+checked_user chronicle moment (asks.Verify key) = None
+checked_user chronicle moment (asks.Reset key password) = None
+checked_user chronicle moment (asks.Logout root) = None
+checked_user chronicle moment (asks.Admin access verb) = None
 
 -- the password that the ask has to fit
 abbrev pub target_password : List Fact → ℕ → Ask → Option UserPassword
 target_password chronicle moment ask = password_for chronicle (checked_user chronicle moment ask)
 
 -- what is to be done with the password of an ask: a new one is hashed so often
-unfoldable pub task_for : PasswordUse → Option UserPassword → ℕ → Words → Option Task
-task_for uses.NoPassword target iterations words = None
-task_for uses.Checks target iterations words = Some (tasks.Check target)
-task_for uses.Sets target iterations words = Some (tasks.Derive (salt_of words) iterations)
+unfoldable pub task_for : PasswordUse → Option UserPassword → ℕ → Draws → Option Task
+task_for uses.NoPassword target iterations draws = None
+task_for uses.Checks target iterations draws = Some (tasks.Check target)
+task_for uses.Sets target iterations draws = Some (tasks.Derive (salt_of draws) iterations)
 
 -- a password is hashed as often as it may be
 abbrev pub HasRounds : Task → Type 0
@@ -80,15 +87,16 @@ finding_for None password = findings.None
 finding_for (Some task) password = finding_of task password
 
 -- what is found for an ask over a chronicle whose last used moment this is
-unfoldable pub found : List Fact → ℕ → Ask → Words → Finding
-found chronicle moment ask words =
-    finding_for (task_for (password_use ask) (target_password chronicle moment ask) (realm_now chronicle).iterations words) (password_text ask)
+unfoldable pub found : List Fact → ℕ → Ask → Draws → Finding
+found chronicle moment ask draws =
+    finding_for (task_for (password_use ask) (target_password chronicle moment ask) (realm_now chronicle).iterations draws) (password_text ask)
 
 -- the ask with its password gone, and what was found
-abbrev pub solved_of : List Fact → ℕ → Ask → Words → SolvedAsk
-solved_of chronicle moment ask words = record { ask = emptied ask; finding = found chronicle moment ask words }
+abbrev pub solved_of : List Fact → ℕ → Ask → Draws → SolvedAsk
+solved_of chronicle moment ask draws = record { ask = emptied ask; finding = found chronicle moment ask draws }
 
 -- the ask has a password
 abbrev pub has_password : PasswordUse → Bool
 has_password uses.NoPassword = false
-has_password usage = true
+has_password uses.Checks = true
+has_password uses.Sets = true

@@ -1,5 +1,5 @@
 -- A hall as contracts see it.
-use Rattle.std.specs.Prelude.{◌≡◌, ℕ, ◌^◌, ◌<◌, ◌≤◌, List, length, take}
+use Rattle.std.specs.Prelude.{◌≡◌, ℕ, ◌≤◌, List, length, take}
 use Rattle.facts.specs.declared.entry.Entry.{Entry}
 use Rattle.facts.specs.declared.fact.Fact.{Fact}
 use Rattle.login_hall.specs.Growth.{chronicle_of, last_moment}
@@ -27,4 +27,3 @@ pub record IsSound (facts : List Fact) (based : ℕ) (journal : List Entry) (las
   pub kept : facts ≡ chronicle_of (take based facts) journal
   pub legal : IsLegal (take based facts) journal
   pub ends : last ≡ last_moment (take based facts) journal
-  pub small : last < 2 ^ 53

@@ -1,17 +1,16 @@
 -- What a start adds to a base.
 use Rattle.std.specs.Prelude.{◌≡◌, ℕ, ◌+◌, Bool, true, false, List, [], ◌∷◌, ◌++◌, Option, Some, None, is_some, if◌then◌else◌}
 use Rattle.login_base.specs.declared.id.UserId.{UserId}
+use Rattle.realm_data.specs.declared.realm_parts.RealmParts.{RealmParts}
+use Rattle.realm_data.specs.declared.realm_parts.RealmUser.{RealmUser}
+use Rattle.realm_data.specs.RealmBuilt.{is_built}
+use Rattle.realm_data.specs.RealmBuiltin.{builtin_realm}
 use Rattle.facts.specs.declared.fact.Fact.{Fact}
-use Rattle.facts.specs.declared.fact.Fact.TheVariants as facts
-use Rattle.facts.specs.declared.realm_parts.RealmParts.{RealmParts}
-use Rattle.facts.specs.declared.realm_parts.RealmUser.{RealmUser}
+use Rattle.facts.specs.declared.fact.Fact.TheVariants as events
 use Rattle.facts.specs.Accounts.{account_named}
-use Rattle.facts.specs.PasswordHash.{HashedPassword}
-use Rattle.facts.specs.RealmBuilt.{is_built}
-use Rattle.facts.specs.RealmBuiltin.{builtin_realm}
 use Rattle.facts.specs.Realms.{current_realm, last_version}
 use Rattle.facts.specs.Serials.{last_stored_serial}
-use Rattle.login_hall.specs.Users.{password_facts}
+use Rattle.admin_asks.specs.Account.{account_facts, serials_of}
 
 -- ---- the realm
 
@@ -31,21 +30,13 @@ IsPut base (Some realm) put = IsPutGiven base realm put
 -- it becomes the version after the last one; the first is 1
 abbrev pub realm_facts : ℕ → Option RealmParts → List Fact
 realm_facts last None = []
-realm_facts last (Some realm) = facts.RealmPut (last + 1) realm ∷ []
+realm_facts last (Some realm) = events.RealmPut (last + 1) realm ∷ []
 
 -- ---- its users
 
-abbrev pub disabled_facts : UserId → Bool → List Fact
-disabled_facts user true = []
-disabled_facts user false = facts.Disabled user ∷ []
-
--- a user of the realm is put, closed where it isn't enabled, and given its password; codes and actions aren't built yet
+-- a user of the realm is added; codes and actions aren't built yet
 abbrev pub user_facts : UserId → RealmUser → List Fact
-user_facts user given = facts.UserPut user given.name given.roles ∷ disabled_facts user given.enabled ++ password_facts user given.password
-
-abbrev pub serials_of : Option HashedPassword → ℕ
-serials_of None = 1
-serials_of (Some hash) = 2
+user_facts user given = account_facts user given.name given.roles given.enabled given.password
 
 abbrev pub new_user_facts : List Fact → ℕ → RealmUser → List Fact
 new_user_facts base serial given = if is_some (account_named given.name base) then [] else user_facts (record { 0 = serial + 1 }) given
@@ -83,5 +74,5 @@ IsPlayable (Some realm) = is_built realm ≡ true
 
 -- the fact is a mark
 abbrev pub is_mark : Fact → Bool
-is_mark (facts.Mark tabs stored used kept) = true
-is_mark fact = false
+is_mark (events.Mark tabs stored used kept) = true
+is_mark event = false

@@ -1,41 +1,43 @@
 ghost use Rattle.std.specs.Prelude.{◌≡◌, ◌<◌, true};
 ghost use Rattle.facts.specs.declared.finding.Finding.TheVariants as findings;
 ghost use Rattle.facts.specs.declared.finding.PasswordUse.TheVariants.{NoPassword};
-ghost use Rattle.facts.specs.Passwords.{password_use, password_text, emptied, is_solved};
+ghost use Rattle.facts.specs.Passdraws.{password_use, password_text, emptied, is_solved};
 ghost use Rattle.facts.specs.Realms.{has_realm};
-ghost use Rattle.login_hall.specs.Realms.{realm_now};
+ghost use Rattle.hall_answers.specs.Setting.{realm_now};
+ghost use Rattle.login_base.specs.Steps.{IsBlank};
 ghost use Rattle.login_hall.specs.Begun.{solution_of, is_work};
 ghost use Rattle.login_hall.specs.Found.{salt_of, who_in, form_target, checked_user, target_password, task_for, finding_of, solved_of, has_password, HasRounds, MayHave};
 
 use crate::begun::Begun;
-use crate::due::realm_now;
-use crate::password_for::password_for;
 use crate::task::Task;
 use crate::work::Work;
+use fact_scans::{account_named, tab_state};
 use facts::{
-    Ask, Chronicle, Facts, Finding, Form, PasswordUse, Solved, UserPassword, account_named,
-    password_use, tab_state, take_password,
+    Ask, Chronicle, Facts, Finding, Form, PasswordUse, Solved, UserPassword, password_use,
+    take_password,
 };
-use login_base::{RootKey, Steps, TabKey, UserId, Words};
+use hall_answers::realm_now;
+use login_base::{Draws, Moment, RootKey, Steps, TabKey, UserId};
+use login_progress::password_for;
 use std::alloc::Global;
 use std::marker::Brand;
 use std::sync::ledger::{Blank, Ledger};
 
-/// The salt of an ask: its words 8 and 9.
-fn salt_of(words: &Words) -> [u8; 16]
-    ensures { result ≡ salt_of words.now }
+/// The salt of an ask: its draws 8 and 9.
+fn salt_of(draws: &Draws) -> [u8; 16]
+    ensures { result ≡ salt_of draws.now }
 {
     let mut salt = [0u8; 16];
     let (high, low) = salt.split_at_mut(8);
-    high.copy_from_slice(&words.0[8].to_be_bytes());
-    low.copy_from_slice(&words.0[9].to_be_bytes());
+    high.copy_from_slice(&draws.0[8].to_be_bytes());
+    low.copy_from_slice(&draws.0[9].to_be_bytes());
     salt
 }
 
 /// Whose login it is in a tab of a root at a moment, where the root has the tab.
 fn who_in<L: Ledger>(
     facts: &Facts<'_>,
-    moment: u64,
+    moment: Moment,
     root: &Option<RootKey>,
     tab: TabKey,
     steps: &mut Steps<L>,
@@ -55,7 +57,7 @@ fn who_in<L: Ledger>(
 /// The account whose password a form checks in a tab.
 fn form_target<L: Ledger>(
     facts: &Facts<'_>,
-    moment: u64,
+    moment: Moment,
     root: &Option<RootKey>,
     tab: TabKey,
     form: &Form,
@@ -66,7 +68,13 @@ fn form_target<L: Ledger>(
     match form {
         Form::NamePassword { name, .. } => account_named(facts, name, steps),
         Form::Password { .. } => who_in(facts, moment, root, tab, steps),
-        _ => None,
+        Form::Username { .. }
+        | Form::Value { .. }
+        | Form::Terms
+        | Form::UpdatePassword { .. }
+        | Form::ConfigureOtp { .. }
+        | Form::RecoveryCodes
+        | Form::VerifyEmail => None,
     }
 }
 
@@ -74,27 +82,28 @@ fn form_target<L: Ledger>(
 #[tactic(auto, unfolding(crate::specs::Found::checked_user))]
 fn checked_user<L: Ledger>(
     facts: &Facts<'_>,
-    moment: u64,
+    moment: Moment,
     ask: &Ask,
     steps: &mut Steps<L>,
 ) -> Option<UserId>
     ensures { result ≡ checked_user facts.now moment ask.now }
 {
     match ask {
-        Ask::Post {
-            root,
-            tab,
-            form,
-            ..
-        } => form_target(facts, moment, root, *tab, form, steps),
-        _ => None,
+        Ask::Post(post) => form_target(facts, moment, &post.root, post.tab, &post.form, steps),
+        Ask::Bad { .. }
+        | Ask::NewTab(_)
+        | Ask::Page { .. }
+        | Ask::Verify { .. }
+        | Ask::Reset { .. }
+        | Ask::Logout { .. }
+        | Ask::Admin { .. } => None,
     }
 }
 
 /// The password that an ask has to fit.
 fn target_password<L: Ledger>(
     facts: &Facts<'_>,
-    moment: u64,
+    moment: Moment,
     ask: &Ask,
     steps: &mut Steps<L>,
 ) -> Option<UserPassword>
@@ -108,16 +117,14 @@ fn target_password<L: Ledger>(
 #[tactic(auto, unfolding(crate::specs::Found::task_for))]
 fn task_of<L: Ledger>(
     chronicle: &Chronicle,
-    moment: u64,
+    moment: Moment,
     ask: &Ask,
-    words: &Words,
+    draws: &Draws,
     blank: Blank,
 ) -> Option<Task>
     requires realm { has_realm chronicle.now.list ≡ true }
-    requires name { blank.name ≡ L.name }
-    requires parts { blank.parts ≡ L.parts }
-    requires some { 0 < blank.parts }
-    ensures task { result ≡ task_for (password_use ask.now) (target_password chronicle.now.list moment ask.now) (realm_now chronicle.now.list).iterations words.now }
+    requires blank { IsBlank blank L.name L.parts }
+    ensures task { result ≡ task_for (password_use ask.now) (target_password chronicle.now.list moment ask.now) (realm_now chronicle.now.list).iterations draws.now }
     ensures rounds { MayHave result }
 {
     let mut steps = Steps::<L>::new(blank);
@@ -128,8 +135,8 @@ fn task_of<L: Ledger>(
             target: target_password(&facts, moment, ask, &mut steps),
         }),
         PasswordUse::Sets => Some(Task::Derive {
-            salt: salt_of(words),
-            iterations: realm_now(chronicle, &mut steps).iterations(),
+            salt: salt_of(draws),
+            iterations: realm_now(chronicle).iterations(),
         }),
     }
 }
@@ -164,15 +171,15 @@ fn ready(ask: Ask) -> Solved
 pub(crate) fn begun(
     alloc: Global,
     chronicle: &Chronicle,
-    moment: u64,
+    moment: Moment,
     ask: Ask,
-    words: &Words,
+    draws: &Draws,
 ) -> Begun
     requires realm { has_realm chronicle.now.list ≡ true }
-    ensures solved { solution_of result ≡ solved_of chronicle.now.list moment ask words.now }
+    ensures solved { solution_of result ≡ solved_of chronicle.now.list moment ask draws.now }
     ensures work { is_work result ≡ has_password (password_use ask) }
 {
-    match task_of::<Brand>(chronicle, moment, &ask, words, Blank::new(1)) {
+    match task_of::<Brand>(chronicle, moment, &ask, draws, Blank::new(1)) {
         Some(task) => Begun::Work(work_of(alloc, ask, task)),
         None => Begun::Ready(ready(ask)),
     }

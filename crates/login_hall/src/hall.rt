@@ -1,29 +1,27 @@
-ghost use Rattle.std.specs.Prelude.{◌≡◌, ◌<◌, ◌≤◌, ◌+◌, ◌-◌, ◌^◌, [], ◌∷◌, ◌++◌, ◌&&◌, nat_le, true, OnOk, IfOk, vec_len, vec_capacity};
+ghost use Rattle.std.specs.Prelude.{◌≡◌, ◌<◌, ◌≤◌, ◌+◌, ◌-◌, ◌^◌, [], ◌∷◌, ◌++◌, ◌↔◌, IsTrue, true, OnOk, IfOk, vec_len, vec_capacity};
 ghost use Rattle.facts.specs.declared.fact.Fact.TheVariants.{Mark};
-ghost use Rattle.facts.specs.Passwords.{password_use};
+ghost use Rattle.facts.specs.Passdraws.{password_use};
 ghost use Rattle.facts.specs.Realms.{has_realm, last_version};
-ghost use Rattle.facts.specs.Serials.{last_tab_serial, last_stored_serial};
+ghost use Rattle.facts.specs.Serials.{last_stored_serial};
 ghost use Rattle.login_hall.specs.Begun.{solution_of, is_work};
 ghost use Rattle.login_hall.specs.Found.{solved_of, has_password};
 ghost use Rattle.login_hall.specs.Growth.{last_moment};
 ghost use Rattle.login_hall.specs.HallState.{facts_of, IsUnchanged};
-ghost use Rattle.login_hall.specs.Legal.{Follows, entry_at, entry_due, Raises};
+ghost use Rattle.login_hall.specs.Legal.{Follows, entry_at, entry_due, Raises, RaisesAtStart};
+ghost use Rattle.hall_answers.specs.HasSerials.{HasSerials};
 ghost use Rattle.login_hall.specs.Start.{IsStart, IsPlayable};
 
-use crate::answer::Answer;
 use crate::begun::Begun;
 use crate::due::due;
 use crate::found::begun;
 use crate::proposal::Proposal;
 use crate::start::{Start, start_facts};
 use facts::{Ask, Chronicle, Entry, Fact, Realm, Reply, Solved};
-use login_base::{Duplicate, Memory, Steps, Words, discard, put};
+use hall_answers::{Answer, Setting};
+use login_base::{Draws, Duplicate, Memory, Moment, Steps, discard, put};
 use std::alloc::Global;
 use std::marker::{Brand, Model};
 use std::sync::ledger::{Blank, Ledger};
-
-/// The last moment that there is, in milliseconds.
-const LAST_MOMENT: u64 = (1 << 53) - 1;
 
 /// The last serial after which an ask finds those that it may need.
 const LAST_SERIAL: u64 = (1 << 63) - 8;
@@ -38,7 +36,7 @@ pub struct Hall {
     based: usize,
     journal: Vec<Entry>,
     /// The last used moment.
-    last: u64,
+    last: Moment,
 }
 
 impl Model for Hall {
@@ -62,12 +60,12 @@ impl Model for Hall {
 fn proposal_of(
     alloc: Global,
     caller: u32,
-    moment: u64,
-    words: Words,
+    moment: Moment,
+    draws: Draws,
     solved: Solved,
     answer: Answer,
 ) -> Result<Proposal, Memory>
-    ensures { IfOk result (λ p. p ≡ record { caller = caller; moment = moment; words = words; solved = solved; reply = answer.reply; added = answer.added }) }
+    ensures { IfOk result (λ p. p ≡ record { caller = caller; moment = moment; draws = draws; solved = solved; reply = answer.reply; added = answer.added }) }
 {
     match answer.reply.duplicate(alloc) {
         Ok(reply) => {
@@ -75,7 +73,7 @@ fn proposal_of(
             let entry = Entry {
                 caller,
                 moment,
-                words,
+                draws,
                 solved,
                 reply: due,
                 added,
@@ -96,19 +94,19 @@ fn proposal_at<L: Ledger>(
     alloc: Global,
     facts: &Chronicle,
     caller: u32,
-    moment: u64,
-    words: Words,
+    moment: Moment,
+    draws: Draws,
     solved: Solved,
     steps: &mut Steps<L>,
 ) -> Result<Proposal, Memory>
     requires realm { has_realm facts.now.list ≡ true }
-    requires tabs { last_tab_serial facts.now.list ≤ 2 ^ 63 - 8 }
-    requires stored { last_stored_serial facts.now.list ≤ 2 ^ 63 - 8 }
-    ensures entry { IfOk result (λ p. p ≡ entry_at facts.now.list caller moment words solved) }
+    requires serials { HasSerials facts.now.list (2 ^ 63 - 8) }
+    ensures entry { IfOk result (λ p. p ≡ entry_at facts.now.list caller moment draws solved) }
     ensures raises { IfOk result (λ p. Raises facts.now.list (facts.now.list ++ p.added)) }
 {
-    match due(alloc, facts, &solved, moment, &words, steps) {
-        Ok(answer) => proposal_of(alloc, caller, moment, words, solved, answer),
+    let setting = Setting::at(alloc, facts, moment, &draws);
+    match due(&setting, &solved, steps) {
+        Ok(answer) => proposal_of(alloc, caller, moment, draws, solved, answer),
         Err(memory) => {
             discard(solved);
             Err(memory)
@@ -138,8 +136,8 @@ impl Hall {
         let mark = Fact::Mark {
             tab_serial: 0,
             stored_serial: 0,
-            used_moment: 0,
-            stored_moment: 0,
+            used_moment: Moment::ZERO,
+            stored_moment: Moment::ZERO,
         };
         let mut facts = Chronicle::make(alloc);
         facts.reserve(&[mark])?;
@@ -149,7 +147,7 @@ impl Hall {
             facts,
             based: 1,
             journal: Vec::new(alloc),
-            last: 0,
+            last: Moment::ZERO,
         })
     }
 
@@ -163,6 +161,7 @@ impl Hall {
         ensures start { IfOk result (λ start. IsStart self.old.base realm start) }
         ensures waiting { IfOk result (λ start. self.new.waiting ≡ start) }
         ensures realm { IfOk result (λ start. has_realm (self.old.base ++ start) ≡ true) }
+        ensures raises { IfOk result (λ start. RaisesAtStart self.old.base (self.old.base ++ start)) }
         ensures same { IsUnchanged self.old self.new }
     {
         let facts = start_facts::<Brand>(self.alloc, &self.facts, realm, Blank::new(1))?;
@@ -185,20 +184,21 @@ impl Hall {
 
     /// Begins an ask: looks up what its password is to be checked against, or a salt for it. It
     /// decides nothing, and takes no memory.
-    pub fn begin(&self, ask: Ask, words: &Words) -> Begun
+    pub fn begin(&self, ask: Ask, draws: &Draws) -> Begun
         requires realm { has_realm (facts_of self.now) ≡ true }
-        ensures solved { solution_of result ≡ solved_of (facts_of self.now) (last_moment self.now.base self.now.journal) ask words.now }
+        ensures solved { solution_of result ≡ solved_of (facts_of self.now) (last_moment self.now.base self.now.journal) ask draws.now }
         ensures work { is_work result ≡ has_password (password_use ask) }
     {
-        begun(self.alloc, &self.facts, self.last, ask, words)
+        begun(self.alloc, &self.facts, self.last, ask, draws)
     }
 
-    /// Whether both counters leave serials for one more ask.
+    /// Whether the counters and the version leave numbers for one more ask.
     pub fn has_serials(&self) -> bool
-        ensures value { result ≡ (nat_le (last_tab_serial (facts_of self.now)) (2 ^ 63 - 8) && nat_le (last_stored_serial (facts_of self.now)) (2 ^ 63 - 8)) }
+        ensures room { IsTrue result ↔ HasSerials (facts_of self.now) (2 ^ 63 - 8) }
     {
         self.facts.last_tab_serial() <= LAST_SERIAL
             && self.facts.last_stored_serial() <= LAST_SERIAL
+            && self.facts.last_version() <= LAST_SERIAL
     }
 
     /// The entry that an ask is due, for which all memory is taken here. It counts a step for each
@@ -207,22 +207,22 @@ impl Hall {
         &mut self,
         caller: u32,
         moment: u64,
-        words: Words,
+        draws: Draws,
         solved: Solved,
         steps: &mut Steps<L>,
     ) -> Result<Proposal, Memory>
         requires realm { has_realm (facts_of self.old) ≡ true }
-        requires tabs { last_tab_serial (facts_of self.old) ≤ 2 ^ 63 - 8 }
-        requires stored { last_stored_serial (facts_of self.old) ≤ 2 ^ 63 - 8 }
-        ensures entry { IfOk result (λ p. p ≡ entry_due self.old.base self.old.journal caller moment words solved) }
+        requires serials { HasSerials (facts_of self.old) (2 ^ 63 - 8) }
+        ensures entry { IfOk result (λ p. p ≡ entry_due self.old.base self.old.journal caller moment draws solved) }
         ensures follows { IfOk result (λ p. Follows self.new.base self.new.journal p) }
         ensures waiting { IfOk result (λ p. self.new.waiting ≡ p.added) }
         ensures room { OnOk result (0 < self.new.room) }
         ensures raises { IfOk result (λ p. Raises (facts_of self.old) (facts_of self.old ++ p.added)) }
         ensures same { IsUnchanged self.old self.new }
     {
-        let now = self.last.max(moment.min(LAST_MOMENT));
-        let proposal = proposal_at(self.alloc, &self.facts, caller, now, words, solved, steps)?;
+        let now = self.last.later(Moment::clamped(moment));
+        let _below_the_end = now.millis();
+        let proposal = proposal_at(self.alloc, &self.facts, caller, now, draws, solved, steps)?;
         let added = proposal.entry.added.as_slice();
         match make_room(&mut self.facts, &mut self.journal, added) {
             Ok(()) => Ok(proposal),

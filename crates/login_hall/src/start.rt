@@ -2,15 +2,16 @@ ghost use Rattle.std.specs.Prelude.{◌≡◌, ◌<◌, ◌≤◌, ◌+◌, ◌-
 ghost use Rattle.std.specs.Option.{option_copied};
 ghost use Rattle.facts.specs.Realms.{last_version};
 ghost use Rattle.facts.specs.Serials.{last_stored_serial};
-ghost use Rattle.login_hall.specs.Start.{put_without, IsPutGiven, IsPut, IsStart, realm_facts, disabled_facts, user_facts, new_user_facts, serial_after, users_facts, users_after, serials_of};
+ghost use Rattle.admin_asks.specs.Account.{serials_of};
+ghost use Rattle.login_base.specs.Steps.{IsBlank};
+ghost use Rattle.login_hall.specs.Legal.{RaisesAtStart};
+ghost use Rattle.login_hall.specs.Start.{put_without, IsPutGiven, IsPut, IsStart, realm_facts, new_user_facts, serial_after, users_facts, users_after};
 
-use crate::sequences::joined;
-use crate::users::add_password;
-use facts::{
-    Chronicle, Fact, Facts, PasswordHash, Realm, RealmUser, Secret, SecretKind, account_named,
-    current_realm, last_stored_serial, last_version,
-};
-use login_base::{Duplicate, Memory, Sequence, Steps, UserId};
+use admin_asks::add_account;
+use fact_scans::{account_named, current_realm, last_stored_serial, last_version};
+use facts::{Chronicle, Fact, Facts, PasswordHash, Realm, RealmUser};
+use hall_answers::joined;
+use login_base::{Memory, Sequence, Steps, UserId};
 use std::alloc::Global;
 use std::marker::Model;
 use std::sync::ledger::{Blank, Ledger};
@@ -39,72 +40,37 @@ impl Model for Start {
 }
 
 /// Without a realm, the one in force stays, and where there is none, the built-in one is put.
-fn put_without<L: Ledger>(
-    alloc: Global,
-    facts: &Facts<'_>,
-    steps: &mut Steps<L>,
-) -> Result<Option<Realm>, Memory>
+fn put_without(alloc: Global, facts: &Facts<'_>) -> Result<Option<Realm>, Memory>
     ensures { IfOk result (λ put. put ≡ put_without facts.now) }
 {
-    match current_realm(facts, steps) {
+    match current_realm(facts) {
         Some(_) => Ok(None),
         None => Ok(Some(Realm::builtin(alloc)?)),
     }
 }
 
 /// A realm that is given is put, where it isn't the one in force.
-fn put_given<L: Ledger>(facts: &Facts<'_>, realm: Realm, steps: &mut Steps<L>) -> Option<Realm>
+fn put_given(facts: &Facts<'_>, realm: Realm) -> Option<Realm>
     ensures { IsPutGiven facts.now realm result }
 {
-    match current_realm(facts, steps) {
+    match current_realm(facts) {
         Some(current) if realm.is_same(current) => None,
         _ => Some(realm),
     }
 }
 
 /// The realm that a start puts, if any.
-fn realm_to_put<L: Ledger>(
+fn realm_to_put(
     alloc: Global,
     facts: &Facts<'_>,
     realm: Option<Realm>,
-    steps: &mut Steps<L>,
 ) -> Result<Option<Realm>, Memory>
     ensures { IfOk result (λ put. IsPut facts.now realm put) }
 {
     match realm {
-        Some(realm) => Ok(put_given(facts, realm, steps)),
-        None => put_without(alloc, facts, steps),
+        Some(realm) => Ok(put_given(facts, realm)),
+        None => put_without(alloc, facts),
     }
-}
-
-/// A user that isn't enabled is closed.
-fn add_disabled(added: &mut Sequence<Fact>, user: UserId, enabled: bool) -> Result<(), Memory>
-    ensures { OnOk result (added.new ≡ added.old ++ disabled_facts user enabled) }
-{
-    if enabled {
-        Ok(())
-    } else {
-        added.push(Fact::Disabled { user })
-    }
-}
-
-/// A user of the realm is put, closed where it isn't enabled, and given its password.
-fn add_user(
-    alloc: Global,
-    added: &mut Sequence<Fact>,
-    user: UserId,
-    given: &RealmUser,
-) -> Result<(), Memory>
-    requires { user.0 ≤ 2 ^ 63 }
-    ensures { OnOk result (added.new ≡ added.old ++ user_facts user given.now) }
-{
-    added.push(Fact::UserPut {
-        user,
-        name: given.name.duplicate(alloc)?,
-        roles: given.roles.duplicate(alloc)?,
-    })?;
-    add_disabled(added, user, given.enabled)?;
-    add_password(added, user, &given.password)
 }
 
 fn serials_of(password: &Option<PasswordHash>) -> u64
@@ -133,7 +99,15 @@ fn add_new_user<L: Ledger>(
     if account_named(facts, &given.name, steps).is_some() {
         return Ok(serial);
     }
-    add_user(alloc, added, UserId(serial + 1), given)?;
+    add_account(
+        alloc,
+        added,
+        UserId(serial + 1),
+        &given.name,
+        &given.roles,
+        given.enabled,
+        &given.password,
+    )?;
     Ok(serial + serials_of(&given.password))
 }
 
@@ -192,16 +166,15 @@ pub(crate) fn start_facts<L: Ledger>(
 ) -> Result<Sequence<Fact>, Memory>
     requires stored { last_stored_serial chronicle.now.list ≤ 2 ^ 63 - 2 ^ 20 }
     requires version { last_version chronicle.now.list ≤ 2 ^ 63 - 2 ^ 20 }
-    requires name { blank.name ≡ L.name }
-    requires parts { blank.parts ≡ L.parts }
-    requires some { 0 < blank.parts }
-    ensures { IfOk result (λ added. IsStart chronicle.now.list realm added) }
+    requires blank { IsBlank blank L.name L.parts }
+    ensures start { IfOk result (λ added. IsStart chronicle.now.list realm added) }
+    ensures raises { IfOk result (λ added. RaisesAtStart chronicle.now.list (chronicle.now.list ++ added)) }
 {
     let mut steps = Steps::<L>::new(blank);
     let facts = Facts::of(chronicle);
-    let put = realm_to_put(alloc, &facts, realm, &mut steps)?;
+    let put = realm_to_put(alloc, &facts, realm)?;
     let mut users = Sequence::new(alloc);
-    let given = users_after(&put, current_realm(&facts, &mut steps));
+    let given = users_after(&put, current_realm(&facts));
     add_users(alloc, &facts, &mut users, given, &mut steps)?;
     let mut added = Sequence::new(alloc);
     add_realm(&mut added, last_version(&facts), put)?;

@@ -2,7 +2,7 @@
 use Rattle.std.specs.Prelude.{List, Option, option_and_then}
 use Rattle.login_base.specs.declared.id.UserId.{UserId}
 use Rattle.facts.specs.declared.fact.Fact.{Fact}
-use Rattle.facts.specs.declared.passwords.UserPassword.{UserPassword}
+use Rattle.facts.specs.declared.user_password.UserPassword.{UserPassword}
 use Rattle.facts.specs.Secrets.{password_of}
 
 -- the password that the user has, if there is a user

@@ -3,7 +3,7 @@ use login_base::{RootKey, TabKey};
 
 /// A tab that its root has, and what is known of it.
 #[derive(Clone, Copy, Debug, PartialEq, Eq)]
-pub(crate) struct KnownTab {
+pub struct KnownTab {
     pub root: RootKey,
     pub tab: TabKey,
     pub opening: Opening,

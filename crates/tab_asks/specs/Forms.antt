@@ -1,6 +1,8 @@
 -- The forms of a post: whom each names, whose password it gives, and which execution it answers.
 use Rattle.std.specs.Prelude.{ℕ, Bool, false, ◌&&◌, List, [], ◌∷◌, Option, None}
+use Rattle.std.specs.Option.{option_or}
 use Rattle.std.specs.Str.{bytes_eq}
+use Rattle.conditions.specs.Secrets.{secret_of}
 use Rattle.login_base.specs.declared.id.UserId.{UserId}
 use Rattle.flow_tree.specs.declared.exec.Kind.{Kind}
 use Rattle.flow_tree.specs.declared.exec.Kind.TheVariants as kinds
@@ -8,27 +10,38 @@ use Rattle.flow_tree.specs.Places.{same_kind}
 use Rattle.facts.specs.declared.ask.Form.{Form}
 use Rattle.facts.specs.declared.ask.Form.TheVariants as forms
 use Rattle.facts.specs.declared.fact.Fact.{Fact}
-use Rattle.facts.specs.declared.fact.Fact.TheVariants as facts
+use Rattle.facts.specs.declared.fact.Fact.TheVariants as events
 use Rattle.facts.specs.declared.reply.Need.{Need}
 use Rattle.facts.specs.Accounts.{account_named}
-use Rattle.facts.specs.Places.{or_else}
-use Rattle.login_hall.specs.declared.form.Passing.{Passing}
+use Rattle.tab_asks.specs.declared.passing.Passing.{Passing}
 
 -- the user whom it names
 abbrev pub named_by : List Fact → Form → Option UserId
 named_by facts (forms.Username execution name) = account_named name facts
 named_by facts (forms.NamePassword execution name password) = account_named name facts
-named_by facts form = None
+named_by facts (forms.Password execution password) = None
+named_by facts (forms.Value execution value) = None
+named_by facts forms.Terms = None
+named_by facts (forms.UpdatePassword password) = None
+named_by facts (forms.ConfigureOtp value) = None
+named_by facts forms.RecoveryCodes = None
+named_by facts forms.VerifyEmail = None
 
--- the user whose password it gives: the one whom it names, else the one whose login it is
+-- the user whose password it is checked against: the one whom it names, else the one whose login it is
 abbrev pub target_of : Option UserId → Option UserId → Form → Option UserId
 target_of named who (forms.NamePassword execution name password) = named
 target_of named who (forms.Password execution password) = who
-target_of named who form = None
+target_of named who (forms.Username execution name) = None
+target_of named who (forms.Value execution value) = None
+target_of named who forms.Terms = None
+target_of named who (forms.UpdatePassword password) = None
+target_of named who (forms.ConfigureOtp value) = None
+target_of named who forms.RecoveryCodes = None
+target_of named who forms.VerifyEmail = None
 
 -- the user concerned: the one whom it names, else the one whose login it is
 abbrev pub concerned : Option UserId → Option UserId → Option UserId
-concerned named who = or_else named who
+concerned named who = option_or named who
 
 abbrev pub is_need : Need → List ℕ → Kind → Bool
 is_need need execution kind = bytes_eq need.id execution && same_kind need.kind kind
@@ -38,17 +51,27 @@ abbrev pub is_of : Need → Form → Bool
 is_of need (forms.Username execution name) = is_need need execution kinds.Username
 is_of need (forms.Password execution password) = is_need need execution kinds.Password
 is_of need (forms.NamePassword execution name password) = is_need need execution kinds.Form
-is_of need form = false
+is_of need (forms.Value execution value) = false
+is_of need forms.Terms = false
+is_of need (forms.UpdatePassword password) = false
+is_of need (forms.ConfigureOtp value) = false
+is_of need forms.RecoveryCodes = false
+is_of need forms.VerifyEmail = false
 
-abbrev pub named : Passing → Fact
-named passing = facts.Named passing.tab passing.user
+abbrev pub name_fact : Passing → Fact
+name_fact passing = events.Named passing.tab passing.user
 
-abbrev pub passed : Passing → List ℕ → Kind → Fact
-passed passing execution kind = facts.Passed passing.tab execution passing.user kind passing.credential passing.moment
+abbrev pub evidence_fact : Passing → List ℕ → Kind → Fact
+evidence_fact passing execution kind = events.Passed passing.tab execution passing.user (secret_of kind) passing.credential passing.moment
 
 -- the evidence of an accepted post: whom it names, and the execution that it passes
 abbrev pub evidence_of : Passing → Form → List Fact
-evidence_of passing (forms.Username execution name) = named passing ∷ passed passing execution kinds.Username ∷ []
-evidence_of passing (forms.NamePassword execution name password) = named passing ∷ passed passing execution kinds.Form ∷ []
-evidence_of passing (forms.Password execution password) = passed passing execution kinds.Password ∷ []
-evidence_of passing form = []
+evidence_of passing (forms.Username execution name) = name_fact passing ∷ evidence_fact passing execution kinds.Username ∷ []
+evidence_of passing (forms.NamePassword execution name password) = name_fact passing ∷ evidence_fact passing execution kinds.Form ∷ []
+evidence_of passing (forms.Password execution password) = evidence_fact passing execution kinds.Password ∷ []
+evidence_of passing (forms.Value execution value) = []
+evidence_of passing forms.Terms = []
+evidence_of passing (forms.UpdatePassword password) = []
+evidence_of passing (forms.ConfigureOtp value) = []
+evidence_of passing forms.RecoveryCodes = []
+evidence_of passing forms.VerifyEmail = []

@@ -1,26 +1,24 @@
-ghost use Rattle.std.specs.Prelude.{◌≡◌, ◌≤◌, ◌-◌, ◌^◌, ◌++◌, IfOk, OnOk};
-ghost use Rattle.facts.specs.Serials.{last_tab_serial, last_stored_serial};
+ghost use Rattle.std.specs.Prelude.{◌≡◌, ◌-◌, ◌^◌, ◌++◌, IfOk, OnOk};
 ghost use Rattle.facts.specs.Tabs.{tab_state};
-ghost use Rattle.login_hall.specs.Post.{behind, is_code, current_code, not_other, has_need, is_asked, serial_of, had_by, unmoved, password_check, name_check, check_of, posted, after_evidence, accepted, failure_of, wrong_credentials, checked, post_where, due_post};
-ghost use Rattle.login_hall.specs.Progress.{asked_in};
+ghost use Rattle.hall_answers.specs.HasSerials.{HasSerials};
+ghost use Rattle.login_progress.specs.Progress.{asked_in};
+ghost use Rattle.tab_asks.specs.Post.{
+    is_code, check_code, check_user, check_post, has_need, check_asked, serial_of, had_by, check_credential, password_check, name_check, check_of,
+    check_form, known_over, answer_to_accepted, failure_of, answer_to_wrong, answer_to_check, post_where, post_by, post_in, due_post,
+};
 
-use crate::answer::Answer;
 use crate::check::Check;
-use crate::context::Context;
-use crate::form::{Passing, concerned, is_of, named_by, target_of};
-use crate::ids::next_code;
-use crate::known_tab::KnownTab;
-use crate::outcome::Outcome;
-use crate::page::answered_in;
-use crate::password_for::password_for;
-use crate::progress::{Progress, progress_of};
-use crate::refusal::Refusal;
-use crate::refused::{in_tab, refused, refused_in};
-use crate::sequences::joined;
-use crate::shown::{rendered, shown};
-use crate::visit::{enabled, known_tab, not_split, same_user, unfinished, user_of};
-use facts::{Chronicle, Fact, Facts, Finding, Form, Need, Next, UserPassword, What};
-use login_base::{Code, Memory, RootKey, Sequence, Steps, TabKey, UserId, discard, same_id};
+use crate::form::{concerned, is_of, named_by, target_of};
+use crate::pages::{page_fact, tab_answer};
+use crate::passing::Passing;
+use crate::visit::{
+    check_enabled, check_tab, check_unfinished, check_whole, same_user, user_of,
+};
+use fact_scans::tab_state_with;
+use facts::{Fact, Facts, Finding, Form, Need, Next, Post, UserPassword, What};
+use hall_answers::{Answer, Refusal, Setting, next_code, refused};
+use login_base::{Code, Memory, Moment, Sequence, Steps, TabKey, UserId, discard, same_id};
+use login_progress::{KnownTab, Progress, password_for, progress_of};
 use std::alloc::Global;
 use std::sync::ledger::Ledger;
 
@@ -36,8 +34,8 @@ fn is_code(code: &Code, shown: &Option<Code>) -> bool
 }
 
 /// The code is the one that was shown last.
-fn current_code(known: &KnownTab, code: &Code) -> Result<(), Refusal>
-    ensures { result ≡ current_code known.now code.now }
+fn check_code(known: &KnownTab, code: &Code) -> Result<(), Refusal>
+    ensures { result ≡ check_code known.now code.now }
 {
     let current = known.state.code;
     if is_code(code, &current) {
@@ -48,10 +46,30 @@ fn current_code(known: &KnownTab, code: &Code) -> Result<(), Refusal>
 }
 
 /// The user whom the form names is the one of the live session.
-fn not_other(moment: u64, known: &KnownTab, named: Option<UserId>) -> Result<(), Refusal>
-    ensures { result ≡ not_other moment known.now named }
+fn check_user(moment: Moment, known: &KnownTab, named: Option<UserId>) -> Result<(), Refusal>
+    ensures { result ≡ check_user moment known.now named }
 {
     same_user(named, user_of(known.state.live_session(moment)))
+}
+
+/// What may refuse a post before it is asked what its tab needs: else whom its form names. Nothing
+/// is read for a code that is stale or a tab that is split.
+#[tactic(auto, unfolding(crate::specs::Post::check_post))]
+fn check_post<L: Ledger>(
+    facts: &Facts<'_>,
+    moment: Moment,
+    known: &KnownTab,
+    post: &Post,
+    steps: &mut Steps<L>,
+) -> Result<Option<UserId>, Refusal>
+    ensures { result ≡ check_post facts.now moment known.now post.now }
+{
+    check_code(known, &post.code)?;
+    check_whole(moment, known)?;
+    let named = named_by(facts, &post.form, steps);
+    check_user(moment, known, named)?;
+    check_unfinished(known)?;
+    Ok(named)
 }
 
 fn has_need(asked: &[Need], form: &Form) -> bool
@@ -61,8 +79,8 @@ fn has_need(asked: &[Need], form: &Form) -> bool
 }
 
 /// The form is one of an execution that is asked.
-fn is_asked(asked: &[Need], form: &Form) -> Result<(), Refusal>
-    ensures { result ≡ is_asked asked.now form.now }
+fn check_asked(asked: &[Need], form: &Form) -> Result<(), Refusal>
+    ensures { result ≡ check_asked asked.now form.now }
 {
     if has_need(asked, form) {
         Ok(())
@@ -90,9 +108,9 @@ fn had_by(finding: &Finding) -> u64
 }
 
 /// The password was checked against the one that the target has.
-#[tactic(auto, unfolding(crate::specs::Post::unmoved))]
-fn unmoved(password: &Option<UserPassword>, finding: &Finding) -> Result<(), Refusal>
-    ensures { result ≡ unmoved password.now finding.now }
+#[tactic(auto, unfolding(crate::specs::Post::check_credential))]
+fn check_credential(password: &Option<UserPassword>, finding: &Finding) -> Result<(), Refusal>
+    ensures { result ≡ check_credential password.now finding.now }
 {
     let had = had_by(finding);
     let now = serial_of(password);
@@ -143,96 +161,87 @@ fn check_of(
 {
     match form {
         Form::Username { .. } => name_check(named),
-        _ => password_check(target, password, finding),
+        Form::Password { .. }
+        | Form::NamePassword { .. }
+        | Form::Value { .. }
+        | Form::Terms
+        | Form::UpdatePassword { .. }
+        | Form::ConfigureOtp { .. }
+        | Form::RecoveryCodes
+        | Form::VerifyEmail => password_check(target, password, finding),
     }
 }
 
-/// The check of a post in a known tab where these executions are asked, or the first refusal.
-#[tactic(auto, unfolding(crate::specs::Post::posted))]
-fn posted<L: Ledger>(
+/// The check of a form that names this user, where these executions are asked, or the first
+/// refusal.
+#[tactic(auto, unfolding(crate::specs::Post::check_form))]
+fn check_form<L: Ledger>(
     facts: &Facts<'_>,
-    moment: u64,
+    moment: Moment,
     known: &KnownTab,
     asked: &[Need],
-    code: &Code,
+    named: Option<UserId>,
     form: &Form,
     finding: &Finding,
     steps: &mut Steps<L>,
 ) -> Result<Check, Refusal>
-    ensures { result ≡ posted facts.now moment known.now asked.now code.now form.now finding.now }
+    ensures { result ≡ check_form facts.now moment known.now asked.now named form.now finding.now }
 {
-    let named = named_by(facts, form, steps);
     let who = known.state.who(moment);
+    check_asked(asked, form)?;
+    check_enabled(facts, concerned(named, who), steps)?;
     let target = target_of(named, who, form);
     let password = password_for(facts, target, steps);
-    current_code(known, code)?;
-    not_split(moment, known)?;
-    not_other(moment, known, named)?;
-    unfinished(known)?;
-    is_asked(asked, form)?;
-    enabled(facts, concerned(named, who), steps)?;
-    unmoved(&password, finding)?;
+    check_credential(&password, finding)?;
     Ok(check_of(named, target, password, form, finding))
 }
 
 // ---- answers
 
-/// The evidence, and what the tab shows behind it.
-fn after_evidence(evidence: Sequence<Fact>, outcome: Outcome) -> Result<Outcome, Memory>
-    ensures { IfOk result (λ after. after ≡ after_evidence evidence outcome) }
+/// The tab as it is known once these facts stand behind those that it was known over.
+fn known_after(known: &KnownTab, evidence: &[Fact], setting: &Setting<'_>) -> KnownTab
+    requires state { known.now.state ≡ tab_state known.now.root known.now.tab setting.now.facts }
+    ensures known { result ≡ known_over known.now (setting.now.facts ++ evidence.now) }
 {
-    let Outcome { what, added } = outcome;
-    let added = joined(evidence, added)?;
-    Ok(Outcome { what, added })
-}
-
-/// The facts with the evidence behind them, and the tab as it is known by then.
-fn behind<'a>(
-    chronicle: &'a Chronicle,
-    known: &KnownTab,
-    evidence: &'a [Fact],
-) -> (Facts<'a>, KnownTab)
-    requires state { known.now.state ≡ tab_state known.now.root known.now.tab chronicle.now.list }
-    ensures facts { result.0 ≡ chronicle.now.list ++ evidence.now }
-    ensures known { result.1 ≡ behind known.now (chronicle.now.list ++ evidence.now) }
-{
-    let after = KnownTab {
-        state: known.state.with(known.root, known.tab, evidence),
+    KnownTab {
+        state: tab_state_with(known.state, known.root, known.tab, evidence),
         ..*known
-    };
-    (Facts::with(chronicle, evidence), after)
+    }
 }
 
-/// The evidence is added, and the tab shows what it comes to.
-#[tactic(auto, unfolding(crate::specs::Post::accepted))]
-fn accepted<L: Ledger>(
-    chronicle: &Chronicle,
-    context: &Context<'_>,
+/// The evidence is added, and the tab is answered over it.
+#[tactic(auto, unfolding(crate::specs::Post::answer_to_accepted))]
+fn answer_to_accepted<L: Ledger>(
+    setting: &Setting<'_>,
     known: &KnownTab,
     form: &Form,
     user: UserId,
     credential: u64,
     steps: &mut Steps<L>,
 ) -> Result<Answer, Memory>
-    requires state { known.now.state ≡ tab_state known.now.root known.now.tab chronicle.now.list }
-    requires tabs { last_tab_serial chronicle.now.list ≤ 2 ^ 63 - 8 }
-    requires stored { last_stored_serial chronicle.now.list ≤ 2 ^ 63 - 8 }
-    ensures { IfOk result (λ answer. answer ≡ accepted chronicle.now.list context.now known.now form.now user credential) }
+    requires state { known.now.state ≡ tab_state known.now.root known.now.tab setting.now.facts }
+    requires serials { HasSerials setting.now.facts (2 ^ 63 - 8) }
+    ensures { IfOk result (λ answer. answer ≡ answer_to_accepted setting.now known.now form.now user credential) }
 {
     let passing = Passing {
         tab: known.tab,
         user,
         credential,
-        moment: context.moment,
+        moment: setting.moment,
     };
-    let evidence = passing.evidence(context.alloc, form)?;
-    let (more, after) = behind(chronicle, known, evidence.as_slice());
-    let outcome = shown(&more, context, &after, steps)?;
-    Ok(answered_in(known.tab, after_evidence(evidence, outcome)?))
+    let evidence = passing.evidence(setting.alloc, form)?;
+    let after = known_after(known, evidence.as_slice(), setting);
+    let more = setting.facts_with(evidence.as_slice());
+    let answer = tab_answer(&more, setting, &after, steps)?;
+    answer.after(evidence)
 }
 
 /// Adds a failure where the user is there.
-fn add_failure(added: &mut Sequence<Fact>, user: Option<UserId>, moment: u64) -> Result<(), Memory>
+fn add_failure(
+    added: &mut Sequence<Fact>,
+    user: Option<UserId>,
+    moment: Moment,
+) -> Result<(), Memory>
     ensures { OnOk result (added.new ≡ added.old ++ failure_of user moment) }
 {
     match user {
@@ -242,88 +251,69 @@ fn add_failure(added: &mut Sequence<Fact>, user: Option<UserId>, moment: u64) ->
 }
 
 /// The same page again, with a new code.
-#[tactic(auto, unfolding(crate::specs::Post::wrong_credentials))]
-fn wrong_credentials(
-    facts: &Facts<'_>,
-    context: &Context<'_>,
+#[tactic(auto, unfolding(crate::specs::Post::answer_to_wrong))]
+fn answer_to_wrong(
+    setting: &Setting<'_>,
     tab: TabKey,
     asked: Sequence<Need>,
     user: Option<UserId>,
 ) -> Result<Answer, Memory>
-    requires { last_tab_serial facts.now ≤ 2 ^ 63 }
-    ensures { IfOk result (λ answer. answer ≡ wrong_credentials facts.now context.now tab asked user) }
+    requires serials { HasSerials setting.now.facts (2 ^ 63 - 8) }
+    ensures { IfOk result (λ answer. answer ≡ answer_to_wrong setting.now tab asked user) }
 {
-    let code = next_code(facts, context.words);
-    let mut added = Sequence::new(context.alloc);
-    add_failure(&mut added, user, context.moment)?;
-    added.push(rendered(tab, code))?;
+    let code = next_code(&setting.facts(), setting.draws);
+    let mut added = Sequence::new(setting.alloc);
+    add_failure(&mut added, user, setting.moment)?;
+    added.push(page_fact(tab, code))?;
     let next = Next::Form { code, asked };
-    Ok(Answer {
-        reply: in_tab(tab, What::BadCredentials { next }),
-        added,
-    })
+    Ok(Answer::in_tab(tab, What::BadCredentials { next }, added))
 }
 
-/// What a checked post is due.
-#[tactic(auto, unfolding(crate::specs::Post::checked))]
-fn checked<L: Ledger>(
-    chronicle: &Chronicle,
-    context: &Context<'_>,
+/// What a post is due whose check came out so.
+#[tactic(auto, unfolding(crate::specs::Post::answer_to_check))]
+fn answer_to_check<L: Ledger>(
+    setting: &Setting<'_>,
     known: &KnownTab,
     asked: Sequence<Need>,
     form: &Form,
     check: Check,
     steps: &mut Steps<L>,
 ) -> Result<Answer, Memory>
-    requires state { known.now.state ≡ tab_state known.now.root known.now.tab chronicle.now.list }
-    requires tabs { last_tab_serial chronicle.now.list ≤ 2 ^ 63 - 8 }
-    requires stored { last_stored_serial chronicle.now.list ≤ 2 ^ 63 - 8 }
-    ensures { IfOk result (λ answer. answer ≡ checked chronicle.now.list context.now known.now asked form.now check) }
+    requires state { known.now.state ≡ tab_state known.now.root known.now.tab setting.now.facts }
+    requires serials { HasSerials setting.now.facts (2 ^ 63 - 8) }
+    ensures { IfOk result (λ answer. answer ≡ answer_to_check setting.now known.now asked form.now check) }
 {
     match check {
         Check::Fits { user, credential } => {
             discard(asked);
-            accepted(chronicle, context, known, form, user, credential, steps)
+            answer_to_accepted(setting, known, form, user, credential, steps)
         }
-        Check::Wrong { user } => {
-            wrong_credentials(&Facts::of(chronicle), context, known.tab, asked, user)
-        }
+        Check::Wrong { user } => answer_to_wrong(setting, known.tab, asked, user),
     }
 }
 
 /// What a post is due in a known tab where these executions are asked.
 #[tactic(auto, unfolding(crate::specs::Post::post_where))]
 fn post_where<L: Ledger>(
-    chronicle: &Chronicle,
-    context: &Context<'_>,
-    code: &Code,
+    setting: &Setting<'_>,
     form: &Form,
     finding: &Finding,
     known: &KnownTab,
+    named: Option<UserId>,
     asked: Sequence<Need>,
     steps: &mut Steps<L>,
 ) -> Result<Answer, Memory>
-    requires state { known.now.state ≡ tab_state known.now.root known.now.tab chronicle.now.list }
-    requires tabs { last_tab_serial chronicle.now.list ≤ 2 ^ 63 - 8 }
-    requires stored { last_stored_serial chronicle.now.list ≤ 2 ^ 63 - 8 }
-    ensures { IfOk result (λ answer. answer ≡ post_where chronicle.now.list context.now code.now form.now finding.now known.now asked) }
+    requires state { known.now.state ≡ tab_state known.now.root known.now.tab setting.now.facts }
+    requires serials { HasSerials setting.now.facts (2 ^ 63 - 8) }
+    ensures { IfOk result (λ answer. answer ≡ post_where setting.now form.now finding.now known.now named asked) }
 {
-    let facts = Facts::of(chronicle);
-    let moment = context.moment;
-    match posted(
-        &facts,
-        moment,
-        known,
-        asked.as_slice(),
-        code,
-        form,
-        finding,
-        steps,
-    ) {
-        Ok(check) => checked(chronicle, context, known, asked, form, check, steps),
+    let facts = setting.facts();
+    let moment = setting.moment;
+    match check_form(&facts, moment, known, asked.as_slice(), named, form, finding, steps) {
+        Ok(check) => answer_to_check(setting, known, asked, form, check, steps),
         Err(refusal) => {
             discard(asked);
-            refused_in(context.alloc, &facts, known.tab, refusal, steps)
+            refused(setting.alloc, &facts, Some(known.tab), refusal, steps)
         }
     }
 }
@@ -338,30 +328,59 @@ fn asked_in(alloc: Global, progress: Progress) -> Sequence<Need>
     }
 }
 
+/// What a post is due that names this user and that nothing has refused yet.
+fn post_by<L: Ledger>(
+    setting: &Setting<'_>,
+    form: &Form,
+    finding: &Finding,
+    known: &KnownTab,
+    named: Option<UserId>,
+    steps: &mut Steps<L>,
+) -> Result<Answer, Memory>
+    requires state { known.now.state ≡ tab_state known.now.root known.now.tab setting.now.facts }
+    requires serials { HasSerials setting.now.facts (2 ^ 63 - 8) }
+    ensures { IfOk result (λ answer. answer ≡ post_by setting.now form.now finding.now known.now named) }
+{
+    let facts = setting.facts();
+    let progress = progress_of(setting.alloc, &facts, setting.moment, known, steps)?;
+    let asked = asked_in(setting.alloc, progress);
+    post_where(setting, form, finding, known, named, asked, steps)
+}
+
+/// What a post is due in a known tab.
+#[tactic(auto, unfolding(crate::specs::Post::post_in))]
+fn post_in<L: Ledger>(
+    setting: &Setting<'_>,
+    post: &Post,
+    finding: &Finding,
+    known: &KnownTab,
+    steps: &mut Steps<L>,
+) -> Result<Answer, Memory>
+    requires state { known.now.state ≡ tab_state known.now.root known.now.tab setting.now.facts }
+    requires serials { HasSerials setting.now.facts (2 ^ 63 - 8) }
+    ensures { IfOk result (λ answer. answer ≡ post_in setting.now post.now finding.now known.now) }
+{
+    let facts = setting.facts();
+    match check_post(&facts, setting.moment, known, post, steps) {
+        Ok(named) => post_by(setting, &post.form, finding, known, named, steps),
+        Err(refusal) => refused(setting.alloc, &facts, Some(known.tab), refusal, steps),
+    }
+}
+
 /// What a post is due.
 #[tactic(auto, unfolding(crate::specs::Post::due_post))]
-pub(crate) fn due_post<L: Ledger>(
-    chronicle: &Chronicle,
-    context: &Context<'_>,
-    root: &Option<RootKey>,
-    tab: TabKey,
-    code: &Code,
-    form: &Form,
+pub fn due_post<L: Ledger>(
+    setting: &Setting<'_>,
+    post: &Post,
     finding: &Finding,
     steps: &mut Steps<L>,
 ) -> Result<Answer, Memory>
-    requires tabs { last_tab_serial chronicle.now.list ≤ 2 ^ 63 - 8 }
-    requires stored { last_stored_serial chronicle.now.list ≤ 2 ^ 63 - 8 }
-    ensures { IfOk result (λ answer. answer ≡ due_post chronicle.now.list context.now root.now tab code.now form.now finding.now) }
+    requires serials { HasSerials setting.now.facts (2 ^ 63 - 8) }
+    ensures ok { IfOk result (λ answer. answer ≡ due_post setting.now post.now finding.now) }
 {
-    let facts = Facts::of(chronicle);
-    let known = match known_tab(&facts, root, tab, steps) {
-        Ok(known) => known,
-        Err(refusal) => return refused(context.alloc, &facts, refusal, steps),
-    };
-    let progress = progress_of(context.alloc, &facts, context.moment, &known, steps)?;
-    let asked = asked_in(context.alloc, progress);
-    post_where(
-        chronicle, context, code, form, finding, &known, asked, steps,
-    )
+    let facts = setting.facts();
+    match check_tab(&facts, &post.root, post.tab, steps) {
+        Ok(known) => post_in(setting, post, finding, &known, steps),
+        Err(refusal) => refused(setting.alloc, &facts, None, refusal, steps),
+    }
 }

@@ -1,14 +1,14 @@
 ghost use Rattle.std.specs.Prelude.{◌≡◌, IfOk};
 ghost use Rattle.facts.specs.Tabs.{tab_state};
-ghost use Rattle.login_hall.specs.Visit.{tab_in, known_tab, user_of, same_user, not_split, unfinished, enabled, going};
+ghost use Rattle.tab_asks.specs.Visit.{tab_in, check_tab, user_of, same_user, check_whole, check_unfinished, check_enabled, check_visit};
 
-use crate::known_tab::KnownTab;
-use crate::refusal::Refusal;
-use facts::{Facts, RootSession, is_disabled, tab_state};
-use login_base::{RootKey, Steps, TabKey, UserId};
+use fact_scans::{is_disabled, tab_state};
+use facts::{Facts, RootSession};
+use hall_answers::Refusal;
+use login_base::{Moment, RootKey, Steps, TabKey, UserId};
+use login_progress::KnownTab;
 use std::sync::ledger::Ledger;
 
-/// The root has this tab.
 #[tactic(auto, unfolding(crate::specs::Visit::tab_in))]
 fn tab_in<L: Ledger>(
     facts: &Facts<'_>,
@@ -32,14 +32,14 @@ fn tab_in<L: Ledger>(
 }
 
 /// A root is given, and it has the tab.
-#[tactic(auto, unfolding(crate::specs::Visit::known_tab))]
-pub(crate) fn known_tab<L: Ledger>(
+#[tactic(auto, unfolding(crate::specs::Visit::check_tab))]
+pub(crate) fn check_tab<L: Ledger>(
     facts: &Facts<'_>,
     root: &Option<RootKey>,
     tab: TabKey,
     steps: &mut Steps<L>,
 ) -> Result<KnownTab, Refusal>
-    ensures known { result ≡ known_tab facts.now root.now tab }
+    ensures known { result ≡ check_tab facts.now root.now tab }
     ensures state { IfOk result (λ known. known.state ≡ tab_state known.root known.tab facts.now) }
 {
     match root {
@@ -69,17 +69,17 @@ pub(crate) fn same_user(named: Option<UserId>, own: Option<UserId>) -> Result<()
     }
 }
 
-/// The user that was named last in the tab is the one of its root's live session.
-#[tactic(auto, unfolding(crate::specs::Visit::not_split))]
-pub(crate) fn not_split(moment: u64, known: &KnownTab) -> Result<(), Refusal>
-    ensures { result ≡ not_split moment known.now }
+/// The tab isn't split.
+#[tactic(auto, unfolding(crate::specs::Visit::check_whole))]
+pub(crate) fn check_whole(moment: Moment, known: &KnownTab) -> Result<(), Refusal>
+    ensures { result ≡ check_whole moment known.now }
 {
     same_user(known.state.named, user_of(known.state.live_session(moment)))
 }
 
 /// The tab hasn't completed.
-pub(crate) fn unfinished(known: &KnownTab) -> Result<(), Refusal>
-    ensures { result ≡ unfinished known.now }
+pub(crate) fn check_unfinished(known: &KnownTab) -> Result<(), Refusal>
+    ensures { result ≡ check_unfinished known.now }
 {
     if known.state.completed {
         return Err(Refusal::Finished);
@@ -88,13 +88,13 @@ pub(crate) fn unfinished(known: &KnownTab) -> Result<(), Refusal>
 }
 
 /// The user is unknown, or isn't disabled.
-#[tactic(auto, unfolding(crate::specs::Visit::enabled))]
-pub(crate) fn enabled<L: Ledger>(
+#[tactic(auto, unfolding(crate::specs::Visit::check_enabled))]
+pub(crate) fn check_enabled<L: Ledger>(
     facts: &Facts<'_>,
     user: Option<UserId>,
     steps: &mut Steps<L>,
 ) -> Result<(), Refusal>
-    ensures { result ≡ enabled facts.now user }
+    ensures { result ≡ check_enabled facts.now user }
 {
     match user {
         Some(user) if is_disabled(facts, user, steps) => Err(Refusal::Disabled),
@@ -103,16 +103,16 @@ pub(crate) fn enabled<L: Ledger>(
 }
 
 /// The tab may go on.
-#[tactic(auto, unfolding(crate::specs::Visit::going))]
-pub(crate) fn going<L: Ledger>(
+#[tactic(auto, unfolding(crate::specs::Visit::check_visit))]
+pub(crate) fn check_visit<L: Ledger>(
     facts: &Facts<'_>,
-    moment: u64,
+    moment: Moment,
     known: &KnownTab,
     steps: &mut Steps<L>,
 ) -> Result<(), Refusal>
-    ensures { result ≡ going facts.now moment known.now }
+    ensures { result ≡ check_visit facts.now moment known.now }
 {
-    not_split(moment, known)?;
-    unfinished(known)?;
-    enabled(facts, known.state.who(moment), steps)
+    check_whole(moment, known)?;
+    check_unfinished(known)?;
+    check_enabled(facts, known.state.who(moment), steps)
 }

@@ -5,7 +5,7 @@ use Rattle.conditions.proofs.Setting.{setup_leaf, setup_test, setup_flow}
 use Rattle.conditions.proofs.setup.+setting.Goals as goal
 
 pub setup_of-returns-in-Auth : goal.setup_of-returns-in-Auth
-setup_of-returns-in-Auth t c = c.of_step.ensures ∙ ap (step_setup c.args.exec.now.requirement) c.kind_configured.ensures ∙ sym (setup_leaf c.args.account.now c.args.exec.now c.in-Auth.kind c.in-Auth.is)
+setup_of-returns-in-Auth t c = c.of_step.ensures ∙ ap (step_setup c.args.exec.now.requirement) c.kind_configured.ensures.value ∙ sym (setup_leaf c.args.account.now c.args.exec.now c.in-Auth.kind c.in-Auth.is)
 
 pub setup_of-returns-in-Cond : goal.setup_of-returns-in-Cond
 setup_of-returns-in-Cond t c = sym (setup_test c.args.account.now c.args.exec.now c.in-Cond.field-0 c.in-Cond.is)

@@ -1,8 +1,16 @@
-use Rattle.std.proofs.Common.{sym}
-use Rattle.facts.proofs.PlacesLemmas.{last_of-more}
-use Rattle.facts.proofs.scan.last_held_kept.Goals as goal
+use Rattle.std.proofs.Common.{refl, ◌-◌, Some, None, arith}
+use Rattle.fact_scans.proofs.Backwards.{found_back, missed_back}
+use Rattle.fact_scans.proofs.scan.last_held_kept.Goals as goal
 
-pub loop-i-preserved : goal.loop-i-preserved
-loop-i-preserved g c =
-    let more = last_of-more (g.P.Hold.held c.args.hold.now) c.args.chronicle.now.list c.loop-i.i c.at.result.now c.at.ensures.fact in
-    rw (c.newer_held-found.ensures, c.of.ensures.value, c.loop-i.invariant) (sym more)
+pub returns-in-Some : goal.returns-in-Some
+returns-in-Some g c =
+    found_back (g.P.Hold.held c.args.hold.now) c.args.chronicle.now.list c.loop-end.end c.at.result.now (Some c.in-Some.held.now)
+    c.loop-end-test.true c.at.ensures.fact c.loop-end.invariant.later c.in-Some.ensures.value refl
+
+pub loop-end-preserved : goal.loop-end-preserved
+loop-end-preserved g c = record {
+  within = omega arith;
+  later =
+      missed_back (g.P.Hold.held c.args.hold.now) c.args.chronicle.now.list c.loop-end.end c.at.result.now None
+      c.loop-end-test.true c.at.ensures.fact c.loop-end.invariant.later c.in_default.ensures.value refl;
+}

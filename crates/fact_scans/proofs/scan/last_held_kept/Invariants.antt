@@ -1,7 +1,12 @@
-use Rattle.std.proofs.Common.{◌≡◌, take}
-use Rattle.std.specs.Option.{option_copied}
+use Rattle.std.proofs.Common.{◌≡◌, ◌≤◌, take, length}
 use Rattle.facts.specs.Places.{last_of}
-use Rattle.facts.proofs.scan.last_held_kept.Given as goal
+use Rattle.fact_scans.proofs.scan.last_held_kept.Given as goal
 
-abbrev pub invariant-loop-i : goal.invariant-loop-i
-invariant-loop-i g l = option_copied l.found ≡ last_of (g.P.Hold.held l.hold) (take l.i l.chronicle.list)
+abbrev pub invariant-loop-end : goal.invariant-loop-end
+invariant-loop-end g l = record {
+  within : l.end ≤ length l.chronicle.list;
+  later : last_of (g.P.Hold.held l.hold) l.chronicle.list ≡ last_of (g.P.Hold.held l.hold) (take l.end l.chronicle.list);
+}
+
+abbrev pub decreases-loop-end : goal.decreases-loop-end
+decreases-loop-end g l = l.end

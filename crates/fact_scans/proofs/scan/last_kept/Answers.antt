@@ -1,8 +1,16 @@
-use Rattle.std.proofs.Common.{sym}
-use Rattle.facts.proofs.PlacesLemmas.{last_of-more}
-use Rattle.facts.proofs.scan.last_kept.Goals as goal
+use Rattle.std.proofs.Common.{sym, ◌∙◌, ◌-◌, arith}
+use Rattle.fact_scans.proofs.Backwards.{found_back, missed_back}
+use Rattle.fact_scans.proofs.scan.last_kept.Goals as goal
 
-pub loop-i-preserved : goal.loop-i-preserved
-loop-i-preserved g c =
-    let more = last_of-more (g.P.Pick.pick c.args.pick.now) c.args.chronicle.now.list c.loop-i.i c.at.result.now c.at.ensures.fact in
-    rw (c.renew.ensures, c.of.ensures.value, c.loop-i.invariant) (sym more)
+pub returns-then-is_some : goal.returns-then-is_some
+returns-then-is_some g c =
+    found_back (g.P.Pick.pick c.args.pick.now) c.args.chronicle.now.list c.loop-end.end c.at.result.now c.of-found.result
+    c.loop-end-test.true c.at.ensures.fact c.loop-end.invariant.later c.of-found.ensures.value (sym c.is_some.ensures ∙ c.if-is_some.true)
+
+pub loop-end-preserved : goal.loop-end-preserved
+loop-end-preserved g c = record {
+  within = omega arith;
+  later =
+      missed_back (g.P.Pick.pick c.args.pick.now) c.args.chronicle.now.list c.loop-end.end c.at.result.now c.of-found.result
+      c.loop-end-test.true c.at.ensures.fact c.loop-end.invariant.later c.of-found.ensures.value (sym c.is_some.ensures ∙ c.if-is_some.false);
+}

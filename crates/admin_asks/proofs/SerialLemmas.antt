@@ -1,0 +1,50 @@
+-- How far the asks of administrators lift the counters.
+use Rattle.std.proofs.Common.{◌≡◌, ℕ, ◌+◌, List, Option, Some, None, refl, ap, sym, arith}
+use Rattle.std.specs.Prelude.{Result, Ok, Err}
+use Rattle.login_base.specs.declared.id.UserId.{UserId}
+use Rattle.facts.specs.declared.admin.AdminVerb.{AdminVerb}
+use Rattle.facts.specs.declared.admin.AdminVerb.TheVariants as verbs
+use Rattle.facts.specs.declared.admin.NewUser.{NewUser}
+use Rattle.facts.specs.declared.ask.Access.{Access}
+use Rattle.facts.specs.declared.fact.Fact.{Fact}
+use Rattle.facts.specs.declared.finding.Finding.{Finding}
+use Rattle.facts.specs.declared.finding.Finding.TheVariants as findings
+use Rattle.facts.specs.Serials.{last_stored_serial}
+use Rattle.hall_answers.specs.declared.refusal.Refusal.{Refusal}
+use Rattle.hall_answers.specs.Refusals.{◌>>=◌, settled}
+use Rattle.hall_answers.specs.Setting.{Setting}
+use Rattle.hall_answers.proofs.Lifts.{Lifts, lifts, nothing}
+use Rattle.admin_asks.specs.Admin.{check_key, due_verb, verb_with, due_admin}
+use Rattle.admin_asks.specs.UserAdd.{check_built, check_name_free, check_new_user, answer_to_new_user, due_user_add}
+
+-- a user whose serial is the next one, and its password
+user_lifts : (old : List Fact) (new : NewUser) (finding : Finding) (user : UserId) → user.0 ≡ last_stored_serial old + 1 → Lifts 2 old (answer_to_new_user new finding user).added
+user_lifts old new (findings.Derived salt count digest) user next = lifts 2 old _ (omega arith) (omega arith) refl
+user_lifts old new findings.None user next = lifts 2 old _ (omega arith) (omega arith) refl
+user_lifts old new (findings.Checked had fits) user next = lifts 2 old _ (omega arith) (omega arith) refl
+
+-- where nothing refuses, the user is the next one
+next_user : (built free : Result (Unit {0}) Refusal) (serial : ℕ) (user : UserId) → ◌≡◌ {A = Result UserId Refusal} (built >>= (λ x. free >>= (λ y. Ok (record { 0 = serial })))) (Ok user) → user.0 ≡ serial
+next_user (Ok x) (Ok y) serial user h = let e : ◌≡◌ {A = UserId} (record { 0 = serial }) user = cc in ap (λ (u : UserId). u.0) (sym e)
+next_user (Ok x) (Err refusal) serial user h = absurd cc
+next_user (Err refusal) free serial user h = absurd cc
+
+new_user_lifts : (setting : Setting) (new : NewUser) (finding : Finding) (user : Result UserId Refusal) → check_new_user setting.facts new ≡ user
+    → Lifts 2 setting.facts (settled setting.facts None (answer_to_new_user new finding) user).added
+unfolding check_new_user
+new_user_lifts setting new finding (Ok user) h =
+    user_lifts setting.facts new finding user (next_user (check_built new) (check_name_free setting.facts new.name) (last_stored_serial setting.facts + 1) user h)
+new_user_lifts setting new finding (Err refusal) h = nothing 2 setting.facts
+
+verb_lifts : (setting : Setting) (verb : AdminVerb) (finding : Finding) → Lifts 2 setting.facts (due_verb setting verb finding).added
+unfolding due_user_add
+verb_lifts setting (verbs.UserAdd new) finding = new_user_lifts setting new finding (check_new_user setting.facts new) refl
+verb_lifts setting verb finding = nothing 2 setting.facts
+
+key_lifts : (setting : Setting) (verb : AdminVerb) (finding : Finding) (key : Result (Unit {0}) Refusal) → Lifts 2 setting.facts (settled setting.facts None (verb_with setting verb finding) key).added
+key_lifts setting verb finding (Ok key) = verb_lifts setting verb finding
+key_lifts setting verb finding (Err refusal) = nothing 2 setting.facts
+
+pub admin_lifts : (setting : Setting) (access : Access) (verb : AdminVerb) (finding : Finding) → Lifts 2 setting.facts (due_admin setting access verb finding).added
+unfolding due_admin
+admin_lifts setting access verb finding = key_lifts setting verb finding (check_key setting.realm access)

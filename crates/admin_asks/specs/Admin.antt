@@ -1,0 +1,45 @@
+-- What an administrator's ask is due.
+use Rattle.std.specs.Prelude.{None, Result, Ok, Err, if◌then◌else◌}
+use Rattle.std.specs.Str.{bytes_eq}
+use Rattle.realm_data.specs.declared.realm_parts.RealmParts.{RealmParts}
+use Rattle.facts.specs.declared.admin.AdminVerb.{AdminVerb}
+use Rattle.facts.specs.declared.admin.AdminVerb.TheVariants as verbs
+use Rattle.facts.specs.declared.ask.Access.{Access}
+use Rattle.facts.specs.declared.ask.Access.TheVariants as ways
+use Rattle.facts.specs.declared.finding.Finding.{Finding}
+use Rattle.hall_answers.specs.declared.answer.Answer.{Answer}
+use Rattle.hall_answers.specs.declared.refusal.Refusal.{Refusal}
+use Rattle.hall_answers.specs.declared.refusal.Refusal.TheVariants.{NotBuilt, WrongKey}
+use Rattle.hall_answers.specs.Refusals.{refused, settled}
+use Rattle.hall_answers.specs.Setting.{Setting}
+use Rattle.admin_asks.specs.UserAdd.{due_user_add}
+
+-- an administrator comes in locally, or with the realm's key
+unfoldable pub check_key : RealmParts → Access → Result (Unit {0}) Refusal
+check_key realm ways.Local = Ok tt
+check_key realm (ways.Key digest) = if bytes_eq digest realm.admin_key then Ok tt else Err WrongKey
+
+-- a verb that isn't built yet is malformed
+abbrev pub not_built : Setting → Answer
+not_built setting = refused setting.facts None NotBuilt
+
+abbrev pub due_verb : Setting → AdminVerb → Finding → Answer
+due_verb setting (verbs.RealmPut realm) finding = not_built setting
+due_verb setting (verbs.UserAdd new) finding = due_user_add setting new finding
+due_verb setting (verbs.Roles name roles) finding = not_built setting
+due_verb setting (verbs.SetPassword name password) finding = not_built setting
+due_verb setting (verbs.OtpSet name secret) finding = not_built setting
+due_verb setting (verbs.OtpRemove name) finding = not_built setting
+due_verb setting (verbs.Require name action) finding = not_built setting
+due_verb setting (verbs.Enable name) finding = not_built setting
+due_verb setting (verbs.Disable name) finding = not_built setting
+due_verb setting (verbs.Unlock name) finding = not_built setting
+due_verb setting (verbs.Token name action life) finding = not_built setting
+due_verb setting (verbs.Revoke session) finding = not_built setting
+due_verb setting verbs.Sweep finding = not_built setting
+
+abbrev pub verb_with : Setting → AdminVerb → Finding → Unit {0} → Answer
+verb_with setting verb finding key = due_verb setting verb finding
+
+unfoldable pub due_admin : Setting → Access → AdminVerb → Finding → Answer
+due_admin setting access verb finding = settled setting.facts None (verb_with setting verb finding) (check_key setting.realm access)

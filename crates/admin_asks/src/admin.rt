@@ -1,0 +1,69 @@
+ghost use Rattle.std.specs.Prelude.{◌≡◌, ◌-◌, ◌^◌, IfOk};
+ghost use Rattle.hall_answers.specs.HasSerials.{HasSerials};
+ghost use Rattle.admin_asks.specs.Admin.{check_key, due_verb, due_admin};
+ghost use Rattle.admin_asks.specs.UserAdd.{IsKeepable};
+
+use crate::user_add::due_user_add;
+use facts::{Access, AdminVerb, Finding, Realm};
+use hall_answers::{Answer, Refusal, Setting, refused};
+use login_base::{Memory, Steps};
+use std::sync::ledger::Ledger;
+
+/// An administrator comes in locally, or with the realm's key.
+#[tactic(auto, unfolding(crate::specs::Admin::check_key))]
+fn check_key(realm: &Realm, access: &Access) -> Result<(), Refusal>
+    ensures { result ≡ check_key realm.now access.now }
+{
+    match access {
+        Access::Key(digest) if *digest != realm.parts().admin_key => Err(Refusal::WrongKey),
+        _ => Ok(()),
+    }
+}
+
+fn due_verb<L: Ledger>(
+    setting: &Setting<'_>,
+    verb: &AdminVerb,
+    finding: &Finding,
+    steps: &mut Steps<L>,
+) -> Result<Answer, Memory>
+    requires serials { HasSerials setting.now.facts (2 ^ 63 - 8) }
+    requires keepable { IsKeepable finding.now }
+    ensures { IfOk result (λ answer. answer ≡ due_verb setting.now verb.now finding.now) }
+{
+    match verb {
+        AdminVerb::UserAdd(new) => due_user_add(setting, new, finding, steps),
+        AdminVerb::RealmPut { .. }
+        | AdminVerb::Roles { .. }
+        | AdminVerb::SetPassword { .. }
+        | AdminVerb::OtpSet { .. }
+        | AdminVerb::OtpRemove { .. }
+        | AdminVerb::Require { .. }
+        | AdminVerb::Enable { .. }
+        | AdminVerb::Disable { .. }
+        | AdminVerb::Unlock { .. }
+        | AdminVerb::Token { .. }
+        | AdminVerb::Revoke { .. }
+        | AdminVerb::Sweep => {
+            refused(setting.alloc, &setting.facts(), None, Refusal::NotBuilt, steps)
+        }
+    }
+}
+
+/// What an administrator's ask is due.
+#[tactic(auto, unfolding(crate::specs::Admin::due_admin))]
+pub fn due_admin<L: Ledger>(
+    setting: &Setting<'_>,
+    access: &Access,
+    verb: &AdminVerb,
+    finding: &Finding,
+    steps: &mut Steps<L>,
+) -> Result<Answer, Memory>
+    requires serials { HasSerials setting.now.facts (2 ^ 63 - 8) }
+    requires keepable { IsKeepable finding.now }
+    ensures ok { IfOk result (λ answer. answer ≡ due_admin setting.now access.now verb.now finding.now) }
+{
+    match check_key(setting.realm, access) {
+        Ok(()) => due_verb(setting, verb, finding, steps),
+        Err(refusal) => refused(setting.alloc, &setting.facts(), None, refusal, steps),
+    }
+}

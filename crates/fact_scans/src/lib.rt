@@ -1,0 +1,20 @@
+//! The questions that an ask puts to the facts, each answered by one scan over the chronicle and
+//! the facts behind it. Every answer is the value that the definitions of `facts` give.
+#![tactic(auto)]
+
+mod accounts;
+mod evidence;
+mod moments;
+mod passwords;
+mod realms;
+mod scan;
+mod serials;
+mod tabs;
+
+pub use accounts::{account_named, is_disabled, name_of, roles_of};
+pub use evidence::has_evidence;
+pub use moments::last_used_moment;
+pub use passwords::password_of;
+pub use realms::{current_realm, last_version, realm_of};
+pub use serials::{last_stored_serial, last_tab_serial};
+pub use tabs::{tab_state, tab_state_with};

@@ -1,0 +1,5 @@
+pub mod Answers
+pub mod HasSerials
+pub mod Ids
+pub mod Refusals
+pub mod Setting

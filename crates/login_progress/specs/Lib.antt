@@ -1,0 +1,5 @@
+pub mod Account
+pub mod Asked
+pub mod PasswordFor
+pub mod Progress
+pub mod Truths

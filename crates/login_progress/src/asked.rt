@@ -1,0 +1,59 @@
+ghost use Rattle.std.specs.Prelude.{◌≡◌, ◌++◌, IfOk, OnOk};
+ghost use Rattle.login_progress.specs.Asked.{can_answer, asked_as, asked_of};
+
+use crate::account::holds;
+use conditions::{AccountView, SecretKind};
+use facts::Need;
+use flow_tree::{Kind, Tree};
+use login_base::{Duplicate, Memory, Name, Sequence};
+use std::alloc::Global;
+
+/// Whether an execution of this kind can be answered now.
+fn can_answer(account: &Option<AccountView>, kind: Kind) -> bool
+    ensures { result ≡ can_answer account.now kind }
+{
+    match kind {
+        Kind::Username | Kind::Form => true,
+        Kind::Password => holds(account, SecretKind::Password),
+        Kind::Otp => holds(account, SecretKind::Otp),
+        Kind::Recovery => holds(account, SecretKind::Recovery),
+        Kind::Allow | Kind::Deny | Kind::Cookie => false,
+    }
+}
+
+/// Adds the execution where it can be answered.
+fn add_asked(
+    alloc: Global,
+    account: &Option<AccountView>,
+    id: &Name,
+    kind: Option<Kind>,
+    asked: &mut Sequence<Need>,
+) -> Result<(), Memory>
+    ensures { OnOk result (asked.new ≡ asked.old ++ asked_as account.now id.now kind) }
+{
+    match kind {
+        Some(kind) if can_answer(account, kind) => asked.push(Need {
+            id: id.duplicate(alloc)?,
+            kind,
+            number: 0,
+        }),
+        _ => Ok(()),
+    }
+}
+
+/// The needs that can be answered.
+#[tactic(auto, unfolding(crate::specs::Asked::asked_of))]
+pub(crate) fn asked_of(
+    alloc: Global,
+    tree: &Tree,
+    account: &Option<AccountView>,
+    needs: &[Name],
+) -> Result<Sequence<Need>, Memory>
+    ensures { IfOk result (λ asked. asked ≡ asked_of tree.now account.now needs.now) }
+{
+    let mut asked = Sequence::new(alloc);
+    for id in needs {
+        add_asked(alloc, account, id, tree.kind_of(id), &mut asked)?;
+    }
+    Ok(asked)
+}

@@ -1,0 +1,15 @@
+//! How far a login has come: which leaves of its flow are true, what the flow still needs, and
+//! what of that a page can ask.
+#![tactic(auto)]
+
+mod account;
+mod asked;
+mod blocked;
+mod known_tab;
+mod password_for;
+mod progress;
+mod truths;
+
+pub use known_tab::KnownTab;
+pub use password_for::password_for;
+pub use progress::{Progress, progress_of};

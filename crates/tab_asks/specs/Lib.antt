@@ -1,0 +1,5 @@
+pub mod Forms
+pub mod NewTab
+pub mod Pages
+pub mod Post
+pub mod Visit
