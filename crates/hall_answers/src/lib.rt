@@ -5,13 +5,13 @@
 mod answer;
 mod ids;
 mod refusal;
-mod refused;
+mod refusing;
 mod sequences;
 mod setting;
 
 pub use answer::Answer;
 pub use ids::{next_code, next_session, root_key, tab_key};
 pub use refusal::Refusal;
-pub use refused::{refused, who_named};
+pub use refusing::{refused, who_named};
 pub use sequences::joined;
 pub use setting::{Setting, realm_now};

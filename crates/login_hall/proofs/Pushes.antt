@@ -8,7 +8,8 @@ use Rattle.facts.specs.declared.entry.Entry.{Entry}
 use Rattle.facts.specs.declared.fact.Fact.{Fact}
 use Rattle.facts.specs.declared.fact.Fact.TheVariants.{Mark}
 use Rattle.facts.specs.Moments.{last_used_moment, used_by}
-use Rattle.facts.specs.Places.{or_else, last_of}
+use Rattle.std.specs.Option.{option_or}
+use Rattle.facts.specs.Places.{last_of}
 use Rattle.facts.proofs.PlacesLemmas.{last_of_append}
 use Rattle.login_hall.specs.Growth.{chronicle_of, last_moment}
 use Rattle.login_hall.specs.HallState.{IsSound}
@@ -44,13 +45,12 @@ sound-push facts based journal last entry sound next =
       kept = rw same (ap (λ l. l ++ entry.added) sound.kept ∙ sym (chronicle_of-push (take based facts) journal entry));
       legal = rw same (legal-push (take based facts) [] journal entry sound.legal next);
       ends = rw same (sym (last_moment-push (take based facts) journal entry));
-      small = next.small;
     }
 
 -- a hall whose base is one mark of zeros
 pub sound-start : IsSound (Mark 0 0 0 0 ∷ []) 1 [] 0
 unfolding chronicle_of last_moment last_used_moment LegalAfter
-sound-start = record { within = omega arith; kept = refl; legal = tt; ends = refl; small = omega arith }
+sound-start = record { within = omega arith; kept = refl; legal = tt; ends = refl }
 
 -- all that happened, with one more entry
 pub chronicle_of-grown : (facts : List Fact) (based : ℕ) (journal : List Entry) (entry : Entry) → based ≤ length facts → chronicle_of (take based (facts ++ entry.added)) (journal ++ entry ∷ []) ≡ chronicle_of (take based facts) journal ++ entry.added
@@ -65,7 +65,7 @@ unmarked (f ∷ fs) h = rw (unmarked fs h) refl
 
 used_before : (old more : List Fact) → list_any is_mark more ≡ false → last_used_moment (old ++ more) ≡ last_used_moment old
 unfolding last_used_moment
-used_before old more h = ap (λ o. unwrap_or o 0) (last_of_append used_by old more ∙ ap (λ o. or_else o (last_of used_by old)) (unmarked more h))
+used_before old more h = ap (λ o. unwrap_or o 0) (last_of_append used_by old more ∙ ap (λ o. option_or o (last_of used_by old)) (unmarked more h))
 
 chronicle_of-base : (base : List Fact) → chronicle_of base [] ≡ base
 unfolding chronicle_of
@@ -93,7 +93,6 @@ sound-started facts based journal last added sound empty unmarked_added =
       ends =
           sound.ends ∙ ap (last_moment (take based facts)) empty ∙ last_moment-base (take based facts) ∙ sym (ap last_used_moment whole) ∙ sym (used_before facts added unmarked_added)
           ∙ sym (ap (λ l. last_moment l []) all ∙ last_moment-base (facts ++ added));
-      small = sound.small;
     }
 
 -- its base is the old one with these facts

@@ -1,38 +1,42 @@
 -- The facts of a start.
-use Rattle.std.proofs.Common.{◌≡◌, ℕ, ◌+◌, ◌≤◌, Bool, true, false, ◌||◌, List, [], ◌∷◌, ◌++◌, Option, Some, None, refl, ap, sym, ◌∙◌, ◌<◌, suc, length, drop, get_or, append_assoc, arith}
+use Rattle.std.proofs.Common.{◌≡◌, ℕ, ◌+◌, ◌*◌, ◌≤◌, Bool, true, false, ◌||◌, List, [], ◌∷◌, ◌++◌, Option, Some, None, refl, ap, sym, ◌∙◌, ◌<◌, suc, length, drop, get_or, append_assoc, arith}
 use Rattle.std.specs.Prelude.{is_some, if◌then◌else◌}
 use Rattle.std.specs.List.{list_any}
+use Rattle.std.specs.Option.{option_or}
 use Rattle.std.proofs.Math.Seq.{drop-cons}
 use Rattle.std.proofs.lemmas.List.{append-nil, drop_all}
 use Rattle.std.proofs.lemmas.List.Folds.{list_any-append}
 use Rattle.login_base.specs.declared.id.UserId.{UserId}
 use Rattle.facts.specs.declared.fact.Fact.{Fact}
-use Rattle.facts.specs.declared.realm_parts.RealmParts.{RealmParts}
-use Rattle.facts.specs.declared.realm_parts.RealmUser.{RealmUser}
+use Rattle.realm_data.specs.declared.realm_parts.RealmParts.{RealmParts}
+use Rattle.realm_data.specs.declared.realm_parts.RealmUser.{RealmUser}
 use Rattle.facts.specs.Accounts.{account_named}
-use Rattle.facts.specs.PasswordHash.{HashedPassword}
-use Rattle.facts.specs.RealmBuiltin.{builtin_realm}
-use Rattle.facts.specs.Realms.{current_realm, has_realm, is_put, last_version}
-use Rattle.facts.proofs.InForce.{has_realm_more, in_force_was_put}
-use Rattle.facts.specs.Serials.{last_stored_serial}
-use Rattle.login_hall.specs.Users.{password_facts}
-use Rattle.login_hall.specs.Start.{IsStart, IsPut, is_mark, realm_facts, disabled_facts, user_facts, new_user_facts, serial_after, users_facts, users_after, start_facts}
+use Rattle.realm_data.specs.PasswordHash.{HashedPassword}
+use Rattle.realm_data.specs.RealmBuiltin.{builtin_realm}
+use Rattle.facts.specs.declared.fact.Fact.TheVariants as events
+use Rattle.facts.specs.Places.{last_of}
+use Rattle.facts.specs.Realms.{current_realm, has_realm, realm_put, last_version}
+use Rattle.facts.specs.Serials.{last_tab_serial, last_stored_serial}
+use Rattle.facts.proofs.InForce.{has_realm_more, last_version_more}
+use Rattle.facts.proofs.PlacesLemmas.{last_of_append}
+use Rattle.facts.proofs.SerialLemmas.{last_tab_serial_more, last_stored_serial_more}
+use Rattle.admin_asks.specs.Account.{account_facts, serials_of}
+use Rattle.login_hall.specs.Legal.{RaisesAtStart}
+use Rattle.login_hall.specs.Start.{IsStart, IsPut, is_mark, realm_facts, user_facts, new_user_facts, serial_after, users_facts, users_after, start_facts}
 
 -- ---- no mark is among them
 
 pub both_without : (front back : List Fact) → list_any is_mark front ≡ false → list_any is_mark back ≡ false → list_any is_mark (front ++ back) ≡ false
 both_without front back f b = list_any-append is_mark front back ∙ ap (λ x. x || list_any is_mark back) f ∙ b
 
-disabled_without : (user : UserId) (enabled : Bool) → list_any is_mark (disabled_facts user enabled) ≡ false
-disabled_without user true = refl
-disabled_without user false = refl
-
-password_without : (user : UserId) (password : Option HashedPassword) → list_any is_mark (password_facts user password) ≡ false
-password_without user None = refl
-password_without user (Some hash) = refl
+account_without : (user : UserId) (name : List ℕ) (roles : List (List ℕ)) (enabled : Bool) (password : Option HashedPassword) → list_any is_mark (account_facts user name roles enabled password) ≡ false
+account_without user name roles true None = refl
+account_without user name roles true (Some hash) = refl
+account_without user name roles false None = refl
+account_without user name roles false (Some hash) = refl
 
 user_without : (user : UserId) (given : RealmUser) → list_any is_mark (user_facts user given) ≡ false
-user_without user given = both_without (disabled_facts user given.enabled) (password_facts user given.password) (disabled_without user given.enabled) (password_without user given.password)
+user_without user given = account_without user given.name given.roles given.enabled given.password
 
 new_user_without : (serial : ℕ) (given : RealmUser) (known : Bool) → list_any is_mark (if known then [] else user_facts (record { 0 = serial + 1 }) given) ≡ false
 new_user_without serial given true = refl
@@ -77,10 +81,6 @@ users_end base added serial users i h = sym (ap (λ us. added ++ users_facts bas
 
 -- ---- a hall that has started has a realm
 
-or_true : (b : Bool) → (b || true) ≡ true
-or_true true = refl
-or_true false = refl
-
 none_put : (current : Option RealmParts) → None ≡ (if is_some current then None else Some builtin_realm) → is_some current ≡ true
 none_put (Some realm) h = refl
 none_put None h = absurd cc
@@ -89,10 +89,105 @@ kept_realm : (base : List Fact) (realm : Option RealmParts) → IsPut base realm
 kept_realm base None h = none_put (current_realm base) h
 kept_realm base (Some realm) h = ap is_some h
 
+first_there : (later : Option RealmParts) (realm : RealmParts) (old : Option RealmParts) → is_some (option_or (option_or later (Some realm)) old) ≡ true
+first_there (Some other) realm old = refl
+first_there None realm old = refl
+
+-- a realm that is put behind facts is there
+put_realm : (base more : List Fact) (version : ℕ) (realm : RealmParts) → has_realm (base ++ events.RealmPut version realm ∷ more) ≡ true
+unfolding has_realm current_realm
+put_realm base more version realm =
+    ap is_some (last_of_append realm_put base (events.RealmPut version realm ∷ more)) ∙ first_there (last_of realm_put more) realm (last_of realm_put base)
+
 with_put : (base : List Fact) (realm put : Option RealmParts) → IsPut base realm put → has_realm (base ++ start_facts base put) ≡ true
 unfolding start_facts has_realm
-with_put base realm None h = has_realm_more base (start_facts base None) (in_force_was_put base (kept_realm base realm h))
-with_put base realm (Some put) h = list_any-append is_put base (start_facts base (Some put)) ∙ or_true (list_any is_put base)
+with_put base realm None h = has_realm_more base (start_facts base None) (kept_realm base realm h)
+with_put base realm (Some put) h = put_realm base (users_facts base (last_stored_serial base) (users_after (Some put) (current_realm base))) (last_version base + 1) put
 
 pub started_has_realm : (base : List Fact) (realm : Option RealmParts) (added : List Fact) → IsStart base realm added → has_realm (base ++ added) ≡ true
 started_has_realm base realm added start = ap (λ l. has_realm (base ++ l)) start.facts ∙ with_put base realm start.put start.is_put
+
+-- ---- how far a start raises the counters
+
+-- the facts leave the tab counter and the version, and bring the stored counter to this number at most
+pub record Adds (old more : List Fact) (top : ℕ) : Type 0 where
+  pub tabs : last_tab_serial (old ++ more) ≡ last_tab_serial old
+  pub stored : last_stored_serial (old ++ more) ≤ top
+  pub version : last_version (old ++ more) ≡ last_version old
+
+account_adds : (old : List Fact) (serial : ℕ) (name : List ℕ) (roles : List (List ℕ)) (enabled : Bool) (password : Option HashedPassword) → last_stored_serial old ≤ serial
+    → Adds old (account_facts (record { 0 = serial + 1 }) name roles enabled password) (serial + serials_of password)
+account_adds old serial name roles true None h = record {
+  tabs = last_tab_serial_more old (account_facts (record { 0 = serial + 1 }) name roles true None);
+  stored = let e = last_stored_serial_more old (account_facts (record { 0 = serial + 1 }) name roles true None) in omega (arith, h);
+  version = last_version_more old (account_facts (record { 0 = serial + 1 }) name roles true None);
+}
+account_adds old serial name roles false None h = record {
+  tabs = last_tab_serial_more old (account_facts (record { 0 = serial + 1 }) name roles false None);
+  stored = let e = last_stored_serial_more old (account_facts (record { 0 = serial + 1 }) name roles false None) in omega (arith, h);
+  version = last_version_more old (account_facts (record { 0 = serial + 1 }) name roles false None);
+}
+account_adds old serial name roles true (Some hash) h = record {
+  tabs = last_tab_serial_more old (account_facts (record { 0 = serial + 1 }) name roles true (Some hash));
+  stored = let e = last_stored_serial_more old (account_facts (record { 0 = serial + 1 }) name roles true (Some hash)) in omega (arith, h);
+  version = last_version_more old (account_facts (record { 0 = serial + 1 }) name roles true (Some hash));
+}
+account_adds old serial name roles false (Some hash) h = record {
+  tabs = last_tab_serial_more old (account_facts (record { 0 = serial + 1 }) name roles false (Some hash));
+  stored = let e = last_stored_serial_more old (account_facts (record { 0 = serial + 1 }) name roles false (Some hash)) in omega (arith, h);
+  version = last_version_more old (account_facts (record { 0 = serial + 1 }) name roles false (Some hash));
+}
+
+nothing_adds : (old : List Fact) (top : ℕ) → last_stored_serial old ≤ top → Adds old [] top
+nothing_adds old top h = record {
+  tabs = ap last_tab_serial (append-nil old);
+  stored = let e = ap last_stored_serial (append-nil old) in omega (arith, h);
+  version = ap last_version (append-nil old);
+}
+
+user_adds : (base old : List Fact) (serial : ℕ) (given : RealmUser) (known : Bool) → last_stored_serial old ≤ serial
+    → Adds old (if known then [] else user_facts (record { 0 = serial + 1 }) given) (if known then serial else serial + serials_of given.password)
+user_adds base old serial given true h = nothing_adds old serial h
+user_adds base old serial given false h = account_adds old serial given.name given.roles given.enabled given.password h
+
+few_serials : (serial : ℕ) (password : Option HashedPassword) (known : Bool) → (if known then serial else serial + serials_of password) ≤ serial + 2
+few_serials serial password true = omega arith
+few_serials serial None false = omega arith
+few_serials serial (Some hash) false = omega arith
+
+users_add : (base old : List Fact) (serial : ℕ) (users : List RealmUser) → last_stored_serial old ≤ serial → Adds old (users_facts base serial users) (serial + 2 * length users)
+unfolding users_facts
+users_add base old serial [] h = nothing_adds old (serial + 2 * 0) (omega (arith, h))
+users_add base old serial (given ∷ users) h =
+    let known = is_some (account_named given.name base) in
+    let front = new_user_facts base serial given in
+    let next = serial_after base serial given in
+    let back = users_facts base next users in
+    let first : Adds old front next = user_adds base old serial given known h in
+    let rest : Adds (old ++ front) back (next + 2 * length users) = users_add base (old ++ front) next users first.stored in
+    let few : next ≤ serial + 2 = few_serials serial given.password known in
+    let e = append_assoc old front back in
+    record {
+      tabs = sym (ap last_tab_serial e) ∙ rest.tabs ∙ first.tabs;
+      stored = let t = ap last_stored_serial e in let s = rest.stored in omega (arith, few, s, t);
+      version = sym (ap last_version e) ∙ rest.version ∙ first.version;
+    }
+
+-- the facts of a realm, and behind them those of at most 10,000 users
+pub start_raises : (base : List Fact) (put : Option RealmParts) → length (users_after put (current_realm base)) ≤ 10000 → RaisesAtStart base (base ++ start_facts base put)
+unfolding start_facts
+start_raises base None few =
+    let users = users_after None (current_realm base) in
+    let added = users_add base base (last_stored_serial base) users (omega arith) in
+    record { tabs = added.tabs; stored = let s = added.stored in omega (arith, few, s); version = let v = added.version in omega (arith, v) }
+start_raises base (Some realm) few =
+    let put = events.RealmPut (last_version base + 1) realm ∷ [] in
+    let users = users_after (Some realm) (current_realm base) in
+    let same : last_stored_serial (base ++ put) ≡ last_stored_serial base = last_stored_serial_more base put in
+    let added = users_add base (base ++ put) (last_stored_serial base) users (omega (arith, same)) in
+    let e = append_assoc base put (users_facts base (last_stored_serial base) users) in
+    record {
+      tabs = sym (ap last_tab_serial e) ∙ added.tabs ∙ last_tab_serial_more base put;
+      stored = let t = ap last_stored_serial e in let s = added.stored in omega (arith, few, s, t);
+      version = let t = ap last_version e in let v = added.version in let w : last_version (base ++ put) ≡ last_version base + 1 = last_version_more base put in omega (arith, t, v, w);
+    }

@@ -6,10 +6,10 @@ mod account;
 mod asked;
 mod blocked;
 mod known_tab;
-mod password_for;
+mod password;
 mod progress;
 mod truths;
 
 pub use known_tab::KnownTab;
-pub use password_for::password_for;
+pub use password::password_for;
 pub use progress::{Progress, progress_of};

@@ -5,8 +5,8 @@ use Rattle.login_base.specs.IdText.{id_bytes}
 use Rattle.login_base.specs.declared.id.Code.{Code}
 use Rattle.login_base.specs.declared.id.RootKey.{RootKey}
 use Rattle.login_base.specs.declared.id.TabKey.{TabKey}
-use Rattle.facts.specs.declared.action.Action.{Action}
-use Rattle.facts.specs.declared.action.Action.TheVariants as actions
+use Rattle.realm_data.specs.declared.action.Action.{Action}
+use Rattle.realm_data.specs.declared.action.Action.TheVariants as actions
 use Rattle.flow_tree.specs.declared.exec.Kind.{Kind}
 use Rattle.flow_tree.specs.declared.exec.Kind.TheVariants as kinds
 use Rattle.facts.specs.declared.rule.Rule.{Rule}

@@ -1,12 +1,10 @@
 ghost use Rattle.std.specs.Prelude.{◌≡◌, ◌++◌, OnOk, IfOk, codes};
 ghost use Rattle.std.specs.List.{flat_map};
-ghost use Rattle.facts.specs.Words.{rule_words, kind_words, action_words, number_words, need_words, listed, form_words, shown_words, action_page_words, next_words, current_words, other_user_words, moved_words, spent_words, done_words, action_done_words, what_words, keys_words, words};
+ghost use Rattle.reply_words.specs.Words.{rule_words, kind_words, action_words, number_words, need_words, listed, form_words, shown_words, action_page_words, next_words, current_words, other_user_words, moved_words, spent_words, done_words, action_done_words, what_words, keys_words, words};
 ghost use Rattle.login_base.specs.IdText.{id_bytes};
 
-use crate::action::Action;
-use crate::reply::{Need, Next, Reply, What, Who};
-use crate::rule::Rule;
 use crate::text::{add, add_field, add_fields, add_id, add_number};
+use facts::{Action, Need, Next, Reply, Rule, What, Who};
 use flow_tree::Kind;
 use login_base::{Code, Memory, Sequence, SessionId, id_text};
 use std::alloc::Global;

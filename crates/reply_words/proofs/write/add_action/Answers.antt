@@ -1,5 +1,5 @@
-use Rattle.facts.proofs.TextLemmas.{two_texts}
-use Rattle.facts.proofs.write.add_action.Goals as goal
+use Rattle.reply_words.proofs.TextLemmas.{two_texts}
+use Rattle.reply_words.proofs.write.add_action.Goals as goal
 
 pub returns : goal.returns
 returns c =

@@ -1,6 +1,6 @@
 use Rattle.std.specs.Prelude.{codes, decimal}
-use Rattle.facts.proofs.TextLemmas.{two_fields}
-use Rattle.facts.proofs.write.add_moved.Goals as goal
+use Rattle.reply_words.proofs.TextLemmas.{two_fields}
+use Rattle.reply_words.proofs.write.add_moved.Goals as goal
 
 pub returns : goal.returns
 returns c =

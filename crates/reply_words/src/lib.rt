@@ -1,0 +1,7 @@
+//! The line of a reply: its words, as a script is answered with them.
+#![tactic(auto)]
+
+mod text;
+mod write;
+
+pub use write::words_of;
