@@ -1,4 +1,5 @@
-ghost use Rattle.std.specs.Prelude.{◌≡◌, ◌<◌, ◌≤◌, ◌-◌, ◌^◌, IfOk};
+ghost use Rattle.std.specs.Prelude.{◌≡◌, ◌<◌, ◌≤◌, ◌-◌, ◌^◌, true, Some, IfOk};
+ghost use Rattle.realm_data.specs.PasswordHash.{is_iterations};
 ghost use Rattle.hall_answers.specs.HasSerials.{HasSerials};
 ghost use Rattle.admin_asks.specs.UserAdd.{check_built, check_name_free, check_new_user, user_text, derived, answer_to_new_user, due_user_add, IsKeepable};
 
@@ -64,6 +65,15 @@ fn user_text(alloc: Global, name: &Name, user: UserId) -> Result<Sequence<u8>, M
     Ok(Sequence::from_vec(text))
 }
 
+/// A password of these parts, which are in their ranges.
+fn kept(salt: &[u8; 16], iterations: u32, digest: &[u8; 32]) -> Option<PasswordHash>
+    requires { is_iterations iterations ≡ true }
+    ensures { result ≡ Some (record { salt = salt.now; iterations = iterations; digest = digest.now }) }
+{
+    let _lengths = (salt.len(), digest.len());
+    PasswordHash::new(salt, iterations, *digest)
+}
+
 /// The password that was derived, as it is kept.
 fn derived(finding: &Finding) -> Option<PasswordHash>
     requires { IsKeepable finding.now }
@@ -74,7 +84,7 @@ fn derived(finding: &Finding) -> Option<PasswordHash>
             salt,
             iterations,
             digest,
-        } => PasswordHash::new(salt, *iterations, *digest),
+        } => kept(salt, *iterations, digest),
         Finding::None | Finding::Checked { .. } => None,
     }
 }

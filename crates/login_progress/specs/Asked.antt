@@ -50,10 +50,13 @@ lacks_setup account (Some kind) = not (kind_configured account kind)
 unfoldable pub first_denied : List Exec → List (List ℕ) → Option (List ℕ)
 first_denied tree needs = find (λ id. is_deny (kind_among id (places tree))) needs
 
+unfoldable pub first_lacking : List Exec → AccountView → List (List ℕ) → Option (List ℕ)
+first_lacking tree account needs = find (λ id. lacks_setup account (kind_among id (places tree))) needs
+
 -- the first need that a known user hasn't set up
-unfoldable pub first_not_configured : List Exec → Option AccountView → List (List ℕ) → Option (List ℕ)
+abbrev pub first_not_configured : List Exec → Option AccountView → List (List ℕ) → Option (List ℕ)
 first_not_configured tree None needs = None
-first_not_configured tree (Some account) needs = find (λ id. lacks_setup account (kind_among id (places tree))) needs
+first_not_configured tree (Some account) needs = first_lacking tree account needs
 
 abbrev pub not_configured : Option (List ℕ) → Progress
 not_configured None = DeadEnd

@@ -1,6 +1,6 @@
 ghost use Rattle.std.specs.Prelude.{◌≡◌, IfOk};
 ghost use Rattle.std.specs.Option.{option_copied};
-ghost use Rattle.login_progress.specs.Asked.{is_deny, lacks_setup, first_denied, first_not_configured, blocked};
+ghost use Rattle.login_progress.specs.Asked.{is_deny, lacks_setup, first_denied, first_lacking, first_not_configured, blocked};
 
 use crate::progress::Progress;
 use conditions::{AccountView, kind_configured};
@@ -31,8 +31,17 @@ fn first_denied<'a>(tree: &Tree, needs: &'a [Name]) -> Option<&'a Name>
     needs.iter().find(|id| is_deny(tree.kind_of(id)))
 }
 
+/// The first need that the user hasn't set up.
+#[tactic(auto, unfolding(crate::specs::Asked::first_lacking))]
+fn first_lacking<'a>(tree: &Tree, account: &AccountView, needs: &'a [Name]) -> Option<&'a Name>
+    ensures { option_copied result ≡ first_lacking tree.now account.now needs.now }
+{
+    needs
+        .iter()
+        .find(|id| lacks_setup(account, tree.kind_of(id)))
+}
+
 /// The first need that a known user hasn't set up.
-#[tactic(auto, unfolding(crate::specs::Asked::first_not_configured))]
 fn first_not_configured<'a>(
     tree: &Tree,
     account: &Option<AccountView>,
@@ -41,9 +50,7 @@ fn first_not_configured<'a>(
     ensures { option_copied result ≡ first_not_configured tree.now account.now needs.now }
 {
     match account {
-        Some(account) => needs
-            .iter()
-            .find(|id| lacks_setup(account, tree.kind_of(id))),
+        Some(account) => first_lacking(tree, account, needs),
         None => None,
     }
 }
