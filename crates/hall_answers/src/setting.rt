@@ -2,8 +2,8 @@ ghost use Rattle.std.specs.Prelude.{◌≡◌, ◌++◌, true};
 ghost use Rattle.facts.specs.Realms.{has_realm};
 ghost use Rattle.hall_answers.specs.Setting.{realm_now, setting_at};
 
-use facts::{Chronicle, Fact, Facts, Realm};
 use fact_scans::current_realm;
+use facts::{Chronicle, Fact, Facts, Realm};
 use login_base::{Draws, Moment};
 use std::alloc::Global;
 use std::marker::Model;
@@ -64,14 +64,14 @@ impl<'a> Setting<'a> {
     }
 
     /// All that happened before.
-    pub fn facts(&self) -> Facts<'a>
+    pub fn facts(&self) -> Facts<'_>
         ensures facts { result ≡ self.now.facts }
     {
         Facts::of(self.chronicle)
     }
 
     /// All that happened before, and these facts behind it.
-    pub fn facts_with(&self, more: &'a [Fact]) -> Facts<'a>
+    pub fn facts_with<'b>(&'b self, more: &'b [Fact]) -> Facts<'b>
         ensures facts { result ≡ self.now.facts ++ more.now }
     {
         Facts::with(self.chronicle, more)
