@@ -1,4 +1,4 @@
-ghost use Rattle.std.specs.Prelude.{◌≡◌, ◌^◌, IfOk};
+ghost use Rattle.std.specs.Prelude.{◌≡◌, ◌-◌, ◌^◌, IfOk};
 ghost use Rattle.hall_answers.specs.HasSerials.{HasSerials};
 ghost use Rattle.tab_asks.specs.Pages.{page_fact, form_page, session_for, session_fact, completion, progress_answer, tab_answer, visit_answer, due_page};
 
