@@ -4,15 +4,15 @@ use Rattle.std.specs.List.{list_all, list_any, flat_map}
 use Rattle.std.specs.Str.{bytes_eq}
 use Rattle.std.proofs.lemmas.List.Folds.{list_any_at}
 use Rattle.flow_tree.specs.declared.before.Sought.{Sought}
-use Rattle.flow_tree.specs.declared.before.Sought.TheVariants.{Id, Level, Kind, Condition, OutOfRange, Nameless}
+use Rattle.flow_tree.specs.declared.before.Sought.TheVariants.{Id, Level, Kind, Condition, OutOfRange, Unnamed}
 use Rattle.flow_tree.specs.declared.exec.Exec.{Exec}
 use Rattle.flow_tree.specs.declared.exec.Requirement.{Requirement}
 use Rattle.flow_tree.specs.declared.before.Before.{Before}
 use Rattle.flow_tree.specs.declared.before.Before.TheViews as view
 use Rattle.flow_tree.specs.declared.before.Before.{Nothing}
 use Rattle.flow_tree.specs.Places.{Place, Flow, placed_at, places_at}
-use Rattle.login_base.specs.Names.{is_name}
 use Rattle.flow_tree.specs.Standing.{depth_of, before_of, is_sought, is_named}
+use Rattle.login_base.specs.Names.{is_name}
 use Rattle.login_base.specs.declared.name.Name.{Name}
 
 pub depth_nothing : (b : Before) → b ≡ Nothing → depth_of b ≡ 1
@@ -54,6 +54,10 @@ or_false : (b : Bool) → (b || false) ≡ b
 or_false true = refl
 or_false false = refl
 
+and_true : (b : Bool) → (b && true) ≡ b
+and_true true = refl
+and_true false = refl
+
 any_concat : {X Y : Type 0} (p : Y → Bool) (f : X → List Y) (xs : List X) → list_any p (flat_map f xs) ≡ list_any (λ x. list_any p (f x)) xs
 any_concat p f [] = refl
 any_concat p f (x ∷ xs) = any_append p (f x) (flat_map f xs) ∙ ap (λ b. list_any p (f x) || b) (any_concat p f xs)
@@ -65,7 +69,7 @@ sought_flow (Level level) d id r = refl
 sought_flow (Kind kind) d id r = refl
 sought_flow Condition d id r = refl
 sought_flow OutOfRange d id r = refl
-sought_flow Nameless d id r = or_false (not (is_name id))
+sought_flow Unnamed d id r = or_false (not (is_name id && true)) ∙ ap not (and_true (is_name id))
 
 -- one of the executions settles it
 pub places_found : (p : Place → Bool) (d : ℕ) (es : List Exec) (i : ℕ) (e : Exec) → i < length es → e ≡ get_or es i e → list_any p (placed_at d e) ≡ true → list_any p (places_at d es) ≡ true

@@ -5,22 +5,23 @@ use Rattle.login_base.specs.Names.{is_name}
 use Rattle.flow_tree.specs.declared.exec.Cond.{Cond}
 use Rattle.flow_tree.specs.declared.exec.Cond.TheVariants as cond
 use Rattle.flow_tree.specs.declared.exec.Exec.{Exec}
-use Rattle.flow_tree.specs.Places.{Place, places, Shape, Leaf, Test, Flow}
+use Rattle.flow_tree.specs.Places.{Shape, Leaf, Test, Flow, Place, places}
 
--- where it asks for a role, the role is a name
-abbrev pub is_role_named : Cond → Bool
-is_role_named (cond.Role role negate) = is_name role
-is_role_named cond.Configured = true
-is_role_named (cond.Level level age) = true
+-- where the condition asks for a role, the role is a name
+abbrev pub asks_by_name : Cond → Bool
+asks_by_name (cond.Role role negate) = is_name role
+asks_by_name cond.Configured = true
+asks_by_name (cond.Level level age) = true
 
-abbrev pub is_shape_named : Shape → Bool
-is_shape_named (Leaf kind) = true
-is_shape_named (Test c) = is_role_named c
-is_shape_named Flow = true
+abbrev pub is_role_named : Shape → Bool
+is_role_named (Leaf kind) = true
+is_role_named (Test c) = asks_by_name c
+is_role_named Flow = true
 
-abbrev pub is_place_named : Place → Bool
-is_place_named p = is_shape_named p.shape && is_name p.id
+-- the execution's own id is a name, and its role, where it is a condition of one
+abbrev pub has_own_names : Place → Bool
+has_own_names p = is_name p.id && is_role_named p.shape
 
--- each execution's id is a name, and each role that a condition asks for
+-- every id is a name, and every role
 abbrev pub has_names : List Exec → Bool
-has_names flow = list_all is_place_named (places flow)
+has_names es = list_all has_own_names (places es)

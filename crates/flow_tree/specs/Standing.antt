@@ -3,14 +3,14 @@ use Rattle.std.specs.Prelude.{◌≡◌, ℕ, Bool, true, false, not, ◌+◌, �
 use Rattle.std.specs.Str.{bytes_eq}
 use Rattle.flow_tree.specs.Places.{Place, Flow, places_at, is_of_kind}
 use Rattle.flow_tree.specs.Faults.{is_of_level, is_condition, first_breaking}
-use Rattle.login_base.specs.Names.{is_name}
-use Rattle.flow_tree.specs.Names.{is_place_named}
+use Rattle.flow_tree.specs.Names.{has_own_names}
 use Rattle.flow_tree.specs.Ranges.{is_level_in_range}
+use Rattle.login_base.specs.Names.{is_name}
 use Rattle.flow_tree.specs.declared.exec.Exec.{Exec}
 use Rattle.flow_tree.specs.declared.fault.TreeRule.{TreeRule}
 use Rattle.flow_tree.specs.declared.before.Before.{Before, Nothing, Flow', All'}
 use Rattle.flow_tree.specs.declared.before.Sought.{Sought}
-use Rattle.flow_tree.specs.declared.before.Sought.TheVariants.{Id, Level, Kind, Condition, OutOfRange, Nameless}
+use Rattle.flow_tree.specs.declared.before.Sought.TheVariants.{Id, Level, Kind, Condition, OutOfRange, Unnamed}
 
 -- the depth at which the next one stands
 unfoldable pub depth_of : Before → ℕ
@@ -30,7 +30,7 @@ is_sought (Level level) p = is_of_level level p.shape
 is_sought (Kind kind) p = is_of_kind kind p.shape
 is_sought Condition p = is_condition p.shape
 is_sought OutOfRange p = not (is_level_in_range p.shape)
-is_sought Nameless p = not (is_place_named p)
+is_sought Unnamed p = not (has_own_names p)
 
 abbrev pub is_named : Sought → List ℕ → Bool
 is_named (Id id) name = bytes_eq name id.now
@@ -38,7 +38,7 @@ is_named (Level level) name = false
 is_named (Kind kind) name = false
 is_named Condition name = false
 is_named OutOfRange name = false
-is_named Nameless name = not (is_name name)
+is_named Unnamed name = not (is_name name)
 
 -- the first i have none that breaks the rule, and the first i + 1 have one
 pub record IsFirstBroken (rule : TreeRule) (before : Before) (es : List Exec) (i : ℕ) : Type 0 where

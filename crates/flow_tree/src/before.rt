@@ -1,14 +1,15 @@
-ghost use Rattle.std.specs.Prelude.{◌≡◌, ℕ, List, ◌-◌, nat_lt, length};
+ghost use Rattle.std.specs.Prelude.{◌≡◌, ℕ, false, List, ◌-◌, nat_lt, length};
 ghost use Rattle.std.specs.List.{list_any};
 ghost use Rattle.flow_tree.specs.Places.{shape_in, place_of, placed_at, places_at, is_of_kind};
 ghost use Rattle.flow_tree.specs.Faults.{is_of_level, is_condition};
 ghost use Rattle.flow_tree.specs.declared.exec.Body.{out-Body};
 ghost use Rattle.flow_tree.specs.Standing.{depth_of, before_of, is_sought, is_named};
+ghost use Rattle.flow_tree.specs.declared.before.Sought.TheVariants.{Unnamed};
 
 use crate::exec::{Body, Exec, Kind, Requirement};
-use crate::names;
+use crate::names::has_own_names;
 use crate::range::is_level_in_range;
-use login_base::Name;
+use login_base::{Name, is_name};
 
 /// What stands before an execution in document order.
 #[derive(Clone, Copy)]
@@ -40,8 +41,8 @@ pub enum Sought<'a> {
     Condition,
     /// A condition of a level that is out of range, or has an age that is.
     OutOfRange,
-    /// An execution whose id is no name, or which asks for a role that is none.
-    Nameless,
+    /// An execution whose id or role is no name.
+    Unnamed,
 }
 
 impl Before<'_> {
@@ -96,11 +97,8 @@ fn is_named(id: &Name, sought: &Sought<'_>) -> bool
 {
     match sought {
         Sought::Id(name) => *id == **name,
-        Sought::Level(_) => false,
-        Sought::Kind(_) => false,
-        Sought::Condition => false,
-        Sought::OutOfRange => false,
-        Sought::Nameless => !names::is_named(id),
+        Sought::Level(_) | Sought::Kind(_) | Sought::Condition | Sought::OutOfRange => false,
+        Sought::Unnamed => !is_name(id.as_bytes()),
     }
 }
 
@@ -108,9 +106,8 @@ fn is_of_level(exec: &Exec, level: u32) -> bool
     ensures { result ≡ is_of_level level (shape_in (out-Body exec.now.body)) }
 {
     match &exec.body {
-        Body::Auth(_) => false,
         Body::Cond(cond) => cond.is_level(level),
-        Body::Sub(_) => false,
+        Body::Auth(_) | Body::Sub(_) => false,
     }
 }
 
@@ -119,8 +116,7 @@ fn is_of_kind(exec: &Exec, kind: Kind) -> bool
 {
     match &exec.body {
         Body::Auth(own) => *own == kind,
-        Body::Cond(_) => false,
-        Body::Sub(_) => false,
+        Body::Cond(_) | Body::Sub(_) => false,
     }
 }
 
@@ -132,7 +128,8 @@ pub fn is_condition(exec: &Exec) -> bool
 
 /// Whether the execution itself has what is sought.
 fn is_itself(exec: &Exec, sought: &Sought<'_>) -> bool
-    ensures { (d : ℕ) → result ≡ is_sought sought.now (place_of d exec.now) }
+    ensures value { (d : ℕ) → result ≡ is_sought sought.now (place_of d exec.now) }
+    ensures names { sought.now ≡ Unnamed → result ≡ false }
 {
     match sought {
         Sought::Id(name) => exec.id == **name,
@@ -140,14 +137,15 @@ fn is_itself(exec: &Exec, sought: &Sought<'_>) -> bool
         Sought::Kind(kind) => is_of_kind(exec, *kind),
         Sought::Condition => is_condition(exec),
         Sought::OutOfRange => !is_level_in_range(exec),
-        Sought::Nameless => !names::has_names(exec),
+        Sought::Unnamed => !has_own_names(exec),
     }
 }
 
 /// Whether the execution or one in it has what is sought.
 #[cycle(seeking)]
 fn is_in(exec: &Exec, sought: &Sought<'_>) -> bool
-    ensures { (d : ℕ) → result ≡ list_any (is_sought sought.now) (placed_at d exec.now) }
+    ensures value { (d : ℕ) → result ≡ list_any (is_sought sought.now) (placed_at d exec.now) }
+    ensures names { sought.now ≡ Unnamed → result ≡ false }
 {
     if is_itself(exec, sought) {
         return true;
@@ -162,7 +160,8 @@ fn is_in(exec: &Exec, sought: &Sought<'_>) -> bool
 /// Whether one of the executions, or one in them, has what is sought.
 #[cycle(seeking)]
 pub fn is_among(execs: &[Exec], sought: &Sought<'_>) -> bool
-    ensures { (d : ℕ) → result ≡ list_any (is_sought sought.now) (places_at d execs.now) }
+    ensures value { (d : ℕ) → result ≡ list_any (is_sought sought.now) (places_at d execs.now) }
+    ensures names { sought.now ≡ Unnamed → result ≡ false }
 {
     for exec in execs {
         if is_in(exec, sought) {

@@ -1,8 +1,6 @@
 ghost use Rattle.std.specs.Prelude.{◌≡◌, IfOk};
 
 use crate::exec::{Body, Cond, Exec};
-use crate::leaves::Leaf;
-use crate::truths::Truths;
 use login_base::{Duplicate, Memory};
 use sqlite_items::Items;
 use std::alloc::Global;
@@ -20,29 +18,6 @@ impl Duplicate for Cond {
                 age: *age,
             }),
         }
-    }
-}
-
-impl Duplicate for Exec {
-    fn duplicate(&self, alloc: Global) -> Result<Exec, Memory> {
-        copy_exec(alloc, self)
-    }
-}
-
-impl Duplicate for Truths {
-    fn duplicate(&self, alloc: Global) -> Result<Truths, Memory> {
-        Ok(Truths {
-            held: self.held.duplicate(alloc)?,
-        })
-    }
-}
-
-impl Duplicate for Leaf {
-    fn duplicate(&self, alloc: Global) -> Result<Leaf, Memory> {
-        Ok(Leaf {
-            id: self.id.duplicate(alloc)?,
-            kind: self.kind,
-        })
     }
 }
 

@@ -77,8 +77,7 @@ impl Cond {
     {
         match self {
             Cond::Level { level: own, age: _ } => *own == level,
-            Cond::Role { role: _, negate: _ } => false,
-            Cond::Configured => false,
+            Cond::Role { role: _, negate: _ } | Cond::Configured => false,
         }
     }
 }

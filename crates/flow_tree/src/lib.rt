@@ -19,6 +19,8 @@ mod range;
 mod reach;
 mod same;
 mod search;
+#[cfg(test)]
+mod tests;
 mod tree;
 mod truths;
 mod verdict;
@@ -30,6 +32,3 @@ pub use leaves::Leaf;
 pub use live::LiveLevel;
 pub use tree::Tree;
 pub use truths::Truths;
-
-#[cfg(test)]
-mod tests;

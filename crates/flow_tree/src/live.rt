@@ -19,8 +19,7 @@ fn level_of(cond: &Cond) -> Option<LiveLevel>
             level: *level,
             age: *age,
         }),
-        Cond::Role { role: _, negate: _ } => None,
-        Cond::Configured => None,
+        Cond::Role { role: _, negate: _ } | Cond::Configured => None,
     }
 }
 

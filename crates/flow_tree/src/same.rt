@@ -3,15 +3,6 @@ ghost use Rattle.std.specs.Prelude.{◌≡◌, ◌↔◌, IsTrue};
 use crate::exec::{Body, Cond, Exec, Kind, Requirement};
 use login_base::Name;
 
-impl Exec {
-    /// Whether the executions are equal, with all that stands in them.
-    pub fn is_same(&self, other: &Exec) -> bool
-        ensures value { IsTrue result ↔ (self.now ≡ other.now) }
-    {
-        same_exec(self, other)
-    }
-}
-
 fn same_kind(a: Kind, b: Kind) -> bool
     ensures { IsTrue result ↔ (a ≡ b) }
 {

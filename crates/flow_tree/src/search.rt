@@ -21,8 +21,7 @@ fn has_level_of(before: &Before<'_>, cond: &Cond) -> bool
     ensures { result ≡ has_level_of (before_of before.now) cond.now }
 {
     match cond {
-        Cond::Role { role: _, negate: _ } => false,
-        Cond::Configured => false,
+        Cond::Role { role: _, negate: _ } | Cond::Configured => false,
         Cond::Level { level, age: _ } => before.has(&Sought::Level(*level)),
     }
 }
@@ -31,9 +30,8 @@ fn repeats_level(before: &Before<'_>, exec: &Exec) -> bool
     ensures { result ≡ repeats_level (before_of before.now) (shape_in (out-Body exec.now.body)) }
 {
     match &exec.body {
-        Body::Auth(_) => false,
         Body::Cond(cond) => has_level_of(before, cond),
-        Body::Sub(_) => false,
+        Body::Auth(_) | Body::Sub(_) => false,
     }
 }
 

@@ -8,7 +8,7 @@ ghost use Rattle.flow_tree.specs.Names.{has_names};
 ghost use Rattle.flow_tree.specs.Places.{places, is_of_kind, kind_among};
 ghost use Rattle.flow_tree.specs.Ranges.{is_level_in_range};
 
-use crate::before::{Before, Sought, is_among, left_after};
+use crate::before::{Before, Sought, is_among};
 use crate::copy::copy_execs;
 use crate::exec::{Exec, Kind, Requirement};
 use crate::fault::{TreeFault, TreeRule};
@@ -178,11 +178,12 @@ impl Tree {
         !is_among(self.execs.as_slice(), &Sought::OutOfRange)
     }
 
-    /// Whether each execution's id is a name, and each role that a condition asks for.
+    /// Whether each id and each role is a name, as they always are.
     pub fn has_names(&self) -> bool
         ensures value { result ≡ has_names self.now }
+        ensures names { IsTrue result }
     {
-        !is_among(self.execs.as_slice(), &Sought::Nameless)
+        !is_among(self.execs.as_slice(), &Sought::Unnamed)
     }
 
     /// Whether the trees are equal.
@@ -190,13 +191,6 @@ impl Tree {
         ensures value { IsTrue result ↔ (self.now ≡ other.now) }
     {
         same_execs(self.execs.as_slice(), other.execs.as_slice())
-    }
-
-    /// The number of executions, those in subflows too.
-    pub fn count(&self) -> usize
-        ensures value { result ≡ length (places self.now) }
-    {
-        64 - left_after(self.execs.as_slice(), 64)
     }
 }
 

@@ -5,6 +5,7 @@ use Rattle.std.specs.Int.{div_ceil}
 use Rattle.std.specs.Int.Digits.{number_from_digits}
 use Rattle.one_time.specs.declared.base32.Base32Fault.{Base32Fault}
 use Rattle.one_time.specs.declared.base32.Base32Fault.TheVariants.{BadLetter, BadLength}
+use Rattle.one_time.specs.declared.regrouped.Regrouped.{Regrouped}
 
 -- the last k digits of a number, each of w bits
 unfoldable pub digits_of : ℕ → ℕ → ℕ → List ℕ
@@ -77,3 +78,20 @@ base32_bytes text = spelled (without_fill text) (fault_of (without_fill text))
 abbrev pub IsRegrouped : ℕ → List ℕ → ℕ → ℕ → ℕ → ℕ → Type 0
 IsRegrouped w digits held count v n =
     (digits ≡ digits_of w (length digits) (v / 2 ^ count)) × (held ≡ v % 2 ^ count) × (n ≡ w * length digits + count)
+
+-- what was handed out and what is held are the n bits of v
+abbrev pub Holds : ℕ → Regrouped → ℕ → ℕ → Type 0
+Holds w bits v n = IsRegrouped w bits.digits.items bits.held bits.count v n
+
+-- the second holds whatever bits the first does
+abbrev pub Keeps : ℕ → Regrouped → Regrouped → Type 0
+Keeps w before after = (v n : ℕ) → Holds w before v n → Holds w after v n
+
+-- the second holds the bits of the first, and behind them those of a digit of so many bits
+abbrev pub TakesIn : ℕ → Regrouped → Regrouped → ℕ → ℕ → Type 0
+TakesIn w before after bits digit = (v n : ℕ) → Holds w before v n → Holds w after (v * 2 ^ bits + digit) (n + bits)
+
+-- the digits are all the bits that are held, with zeros up to a whole digit of five bits
+abbrev pub AreFilled : Regrouped → List ℕ → Type 0
+AreFilled bits digits =
+    (v n : ℕ) → Holds 5 bits v n → digits ≡ digits_of 5 (div_ceil n 5) (v * 2 ^ (5 * div_ceil n 5 - n))

@@ -1,9 +1,8 @@
 //! Base32 (RFC 4648, section 6), as people type it: either case, with or without `=` at the end.
 
-ghost use Rattle.std.specs.Prelude.{◌≡◌, ℕ, ◌+◌, ◌-◌, ◌*◌, ◌%◌, ◌^◌, ◌<◌, ◌≤◌, [], ◌⊎◌, map, length, vec_len, IfOk, IfErr, IsOk, Ok, Err};
-ghost use Rattle.std.specs.Int.{div_ceil};
+ghost use Rattle.std.specs.Prelude.{◌≡◌, ◌*◌, ◌%◌, ◌^◌, ◌<◌, ◌⊎◌, map, length, IfOk, IfErr, IsOk, Ok, Err};
 ghost use Rattle.std.specs.Int.Digits.{number_from_digits};
-ghost use Rattle.one_time.specs.Base32.{IsRegrouped, digits_of, base32_bytes, base32_letters, byte_digits, digit_of, fault_from, fault_of, first_bad, is_bad_length, letter_of, letter_value, letters_bytes, without_fill};
+ghost use Rattle.one_time.specs.Base32.{AreFilled, Holds, base32_bytes, base32_letters, digit_of, fault_from, fault_of, first_bad, is_bad_length, letter_of, letter_value, letters_bytes, without_fill};
 
 use crate::regrouped::Regrouped;
 use login_base::Memory;
@@ -98,7 +97,8 @@ fn fault_of(letters: &[u8]) -> Option<Base32Fault>
 /// that no bytes have; want of memory comes only for a text that spells bytes.
 pub fn base32_read(alloc: Global, text: &[u8]) -> Result<Vec<u8>, Base32Fault>
     ensures ok { IfOk result (λ bytes. base32_bytes text.now ≡ Ok bytes.items) }
-    ensures err { IfErr result (λ e. (base32_bytes text.now ≡ Err e) ⊎ ((e ≡ Base32Fault.Memory) × IsOk (base32_bytes text.now))) }
+    ensures err { IfErr result (λ e. (base32_bytes text.now ≡ Err e)
+        ⊎ ((e ≡ Base32Fault.Memory) × IsOk (base32_bytes text.now))) }
 {
     let letters = without_fill(text);
     match fault_of(letters) {
@@ -136,7 +136,7 @@ fn lettered(mut digits: Vec<u8>) -> Vec<u8>
 fn regrouped_bytes(alloc: Global, bytes: &[u8]) -> Result<Regrouped, Memory>
     ensures ready { IfOk result (λ bits. bits.count < 5) }
     ensures held { IfOk result (λ bits. bits.held < 2 ^ bits.count) }
-    ensures value { IfOk result (λ bits. IsRegrouped 5 bits.digits.items bits.held bits.count (number_from_digits (2 ^ 8) bytes.now) (8 * length bytes.now)) }
+    ensures value { IfOk result (λ bits. Holds 5 bits (number_from_digits (2 ^ 8) bytes.now) (8 * length bytes.now)) }
 {
     let mut bits = Regrouped::new(alloc);
     'bytes: for byte in bytes {
@@ -149,7 +149,7 @@ fn regrouped_bytes(alloc: Global, bytes: &[u8]) -> Result<Regrouped, Memory>
 fn filled_up(mut bits: Regrouped) -> Result<Vec<u8>, Memory>
     requires ready { bits.count < 5 }
     requires held { bits.held < 2 ^ bits.count }
-    ensures ok { IfOk result (λ digits. (v n : ℕ) → IsRegrouped 5 bits.digits.items bits.held bits.count v n → digits.items ≡ digits_of 5 (div_ceil n 5) (v * 2 ^ (5 * div_ceil n 5 - n))) }
+    ensures ok { IfOk result (λ digits. AreFilled bits digits.items) }
 {
     if bits.count == 0 {
         return Ok(bits.into_digits());

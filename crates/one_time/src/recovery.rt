@@ -40,7 +40,8 @@ impl RecoveryList {
 
     /// The next number, where it has this digest.
     fn next_with(&self, digest: &[u8; 32]) -> Option<u64>
-        ensures value { result ≡ find (has_digest self.now.digests digest.now) (next_numbers self.now.digests self.now.spent) }
+        ensures value { result ≡ find (has_digest self.now.digests digest.now)
+            (next_numbers self.now.digests self.now.spent) }
     {
         let number = u64::from(self.next()?);
         if self.has(digest, number) {

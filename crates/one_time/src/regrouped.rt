@@ -1,7 +1,6 @@
 //! Bits that come in digits of one width and go out in digits of another.
 
-ghost use Rattle.std.specs.Prelude.{◌≡◌, ℕ, ◌+◌, ◌-◌, ◌*◌, ◌^◌, ◌<◌, ◌≤◌, OnOk};
-ghost use Rattle.one_time.specs.Base32.{IsRegrouped};
+ghost use Rattle.std.specs.Prelude.{◌≡◌, ℕ, ◌+◌, ◌^◌, ◌<◌, ◌≤◌, OnOk};
 
 use login_base::Memory;
 use std::alloc::Global;
@@ -15,11 +14,13 @@ pub(crate) struct Regrouped {
 }
 
 impl Regrouped {
+    ghost use Rattle.one_time.specs.Base32.{Holds, Keeps, TakesIn};
+
     /// No bits.
     pub fn new(alloc: Global) -> Regrouped
         ensures count { result.count ≡ 0 }
         ensures held { result.held < 2 ^ result.count }
-        ensures value { (w : ℕ) → IsRegrouped w result.digits.items result.held result.count 0 0 }
+        ensures value { (w : ℕ) → Holds w result 0 0 }
     {
         Regrouped {
             digits: Vec::new(alloc),
@@ -36,7 +37,7 @@ impl Regrouped {
         requires held { self.old.held < 2 ^ self.old.count }
         ensures count { OnOk result (self.new.count + width ≡ self.old.count) }
         ensures held { OnOk result (self.new.held < 2 ^ self.new.count) }
-        ensures value { OnOk result ((v n : ℕ) → IsRegrouped width self.old.digits.items self.old.held self.old.count v n → IsRegrouped width self.new.digits.items self.new.held self.new.count v n) }
+        ensures value { OnOk result (Keeps width self.old self.new) }
     {
         let rest = self.count - width;
         let unit = 2u32.pow(rest);
@@ -56,7 +57,7 @@ impl Regrouped {
         requires held { self.old.held < 2 ^ self.old.count }
         ensures ready { OnOk result (self.new.count < width) }
         ensures held { OnOk result (self.new.held < 2 ^ self.new.count) }
-        ensures value { OnOk result ((v n : ℕ) → IsRegrouped width self.old.digits.items self.old.held self.old.count v n → IsRegrouped width self.new.digits.items self.new.held self.new.count (v * 2 ^ bits + digit) (n + bits)) }
+        ensures value { OnOk result (TakesIn width self.old self.new bits digit) }
     {
         self.held = self.held * 2u32.pow(bits) + u32::from(digit);
         self.count += bits;

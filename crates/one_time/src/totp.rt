@@ -74,7 +74,9 @@ fn least_unspent(
 ) -> Option<u64>
     requires low { 6 ≤ digits }
     requires high { digits ≤ 8 }
-    ensures value { result ≡ find (λ step. is_code_of key.now digits code.now step && not (contains spent.now step)) (range_with_len first (end - first)) }
+    ensures value { result ≡ find
+        (λ step. is_code_of key.now digits code.now step && not (contains spent.now step))
+        (range_with_len first (end - first)) }
 {
     (first..end).find(|step| is_code_of(key, digits, code, *step) && !spent.contains(step))
 }

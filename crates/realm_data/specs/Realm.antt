@@ -50,7 +50,8 @@ are_numbers r =
 -- no two items have one name
 unfoldable pub are_apart : {A : Type 0} → (A → List ℕ) → List A → Bool
 are_apart name [] = true
-are_apart name (item ∷ items) = not (list_any (λ other. bytes_eq (name item) (name other)) items) && are_apart name items
+are_apart name (item ∷ items) =
+    not (list_any (λ other. bytes_eq (name item) (name other)) items) && are_apart name items
 
 -- the item's name stands before that of the first of these, in byte order
 abbrev pub is_before : {A : Type 0} → (A → List ℕ) → A → List A → Bool
@@ -99,7 +100,8 @@ are_named r =
 -- what a user is kept with is in its ranges
 abbrev pub has_secrets_in_range : RealmUser → Bool
 has_secrets_in_range u =
-    option_map_or is_hash u.password true && option_map_or is_otp_key u.otp true && option_map_or are_recovery_digests u.recovery true
+    option_map_or is_hash u.password true && option_map_or is_otp_key u.otp true
+    && option_map_or are_recovery_digests u.recovery true
 
 abbrev pub are_secrets : RealmParts → Bool
 are_secrets r = is_digest r.admin_key && list_all has_secrets_in_range r.users

@@ -15,7 +15,16 @@ builtin_flow = record { id = codes "form"; requirement = Required; body = Auth F
 
 -- a minute more for each third failure, and at most a quarter of an hour
 abbrev pub builtin_lockout : Policy
-builtin_lockout = record { mode = Temporary; max_failures = 3; wait_increment = 60; max_wait = 900; failure_reset = 43200; quick_check = 1000; quick_wait = 60 }
+builtin_lockout =
+    record {
+      mode = Temporary;
+      max_failures = 3;
+      wait_increment = 60;
+      max_wait = 900;
+      failure_reset = 43200;
+      quick_check = 1000;
+      quick_wait = 60;
+    }
 
 abbrev pub builtin_clients : List Client
 builtin_clients = record { id = codes "app"; level = 0 } ∷ []

@@ -10,14 +10,10 @@ mod realm_built;
 mod realm_builtin;
 mod realm_parts;
 mod realm_rules;
-#[cfg(test)]
-mod realm_same_tests;
-#[cfg(test)]
-mod realm_samples;
-#[cfg(test)]
-mod realm_tests;
 mod recovery_digests;
 mod same;
+#[cfg(test)]
+mod tests;
 
 pub use action::Action;
 pub use otp_secret::OtpSecret;
@@ -25,3 +21,4 @@ pub use password_hash::{PasswordHash, is_iterations};
 pub use realm::Realm;
 pub use realm_parts::{AcrLevel, Client, OtpRule, RealmParts, RealmUser, SessionLimits};
 pub use recovery_digests::RecoveryDigests;
+pub use same::Same;

@@ -1,4 +1,4 @@
-ghost use Rattle.std.specs.Prelude.{◌≡◌, Some, None, if◌then◌else◌};
+ghost use Rattle.std.specs.Prelude.{◌≡◌, IsTrue, Some, None, if◌then◌else◌};
 ghost use Rattle.realm_data.specs.Secrets.{is_otp_key};
 
 use login_base::{Duplicate, Memory, Sequence};
@@ -37,6 +37,7 @@ impl OtpSecret {
     /// The key, 10 to 64 bytes.
     pub fn key(&self) -> &[u8]
         ensures key { result.now ≡ self.now }
+        ensures range { IsTrue (is_otp_key self.now) }
     {
         self.key.as_slice()
     }

@@ -1,4 +1,4 @@
-ghost use Rattle.std.specs.Prelude.{◌≡◌, ◌≤◌, true, length};
+ghost use Rattle.std.specs.Prelude.{◌≡◌, ◌≤◌, IsTrue, true, length};
 ghost use Rattle.realm_data.specs.Padding.{padded};
 ghost use Rattle.realm_data.specs.PasswordHash.{hash_of, is_hash, is_iterations};
 
@@ -35,7 +35,8 @@ impl Model for PasswordHash {
 
     ghost inverse = { λ v. record { salt = padded v.salt; salt_len = length v.salt; iterations = v.iterations; digest = v.digest } };
 
-    ghost inverse_ok = { λ h ok. both (λ (salt : List ℕ) (len : ℕ). record h { salt = salt; salt_len = len }) (sym ok.padded) (length-padded h.salt h.salt_len ok.most ok.padded) };
+    ghost inverse_ok = { λ h ok. both (λ (salt : List ℕ) (len : ℕ). record h { salt = salt; salt_len = len })
+        (sym ok.padded) (length-padded h.salt h.salt_len ok.most ok.padded) };
 }
 
 /// The text, and zeros.
@@ -82,6 +83,7 @@ impl PasswordHash {
     /// Whether the parts are in their ranges, as they always are.
     pub(crate) fn is_in_range(&self) -> bool
         ensures value { result ≡ is_hash self.now }
+        ensures always { IsTrue result }
     {
         is_hash(self.salt(), self.iterations, &self.digest)
     }

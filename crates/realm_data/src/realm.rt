@@ -1,4 +1,6 @@
-ghost use Rattle.std.specs.Prelude.{◌≡◌, ◌↔◌, ◌*◌, ◌≤◌, true, length, IsTrue, IfOk, Some, None, if◌then◌else◌};
+ghost use Rattle.std.specs.Prelude.{◌≡◌, ◌↔◌, ◌*◌, ◌≤◌, true, length, IsTrue, IfOk};
+ghost use Rattle.std.specs.Prelude.{Some, None, if◌then◌else◌};
+ghost use Rattle.lockout.specs.Policy.{IsPolicy};
 ghost use Rattle.realm_data.specs.PasswordHash.{is_iterations};
 ghost use Rattle.realm_data.specs.Realm.{is_realm};
 ghost use Rattle.realm_data.specs.RealmBuilt.{is_built};
@@ -9,6 +11,7 @@ use crate::realm_builtin::builtin_parts;
 use crate::realm_parts::{RealmParts, RealmUser};
 use crate::realm_rules::is_realm;
 use crate::same::Same;
+use lockout::Policy;
 use login_base::{Duplicate, Memory};
 use sqlite_items::Boxed;
 use std::alloc::Global;
@@ -80,6 +83,15 @@ impl Realm {
         ensures value { IsTrue result ↔ (self.now ≡ other.now) }
     {
         self.parts.get().is_same(other.parts.get())
+    }
+
+    /// The rule by which failures lock an account.
+    #[tactic(auto, using(crate::proofs::RealmRules::policy_in_range))]
+    pub fn lockout(&self) -> &Policy
+        ensures policy { result.now ≡ self.now.lockout }
+        ensures range { IsPolicy result.now }
+    {
+        &self.parts().lockout
     }
 
     /// How long a tab lives, in milliseconds.

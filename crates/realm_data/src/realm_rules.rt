@@ -3,25 +3,10 @@ ghost use Rattle.std.specs.List.{list_any, list_all};
 ghost use Rattle.std.specs.Option.{option_map_or};
 ghost use Rattle.std.specs.Str.{bytes_eq};
 ghost use Rattle.realm_data.specs.PasswordHash.{is_hash};
-ghost use Rattle.realm_data.specs.Realm.{
-  is_within,
-  are_limits,
-  is_otp_rule,
-  is_policy,
-  are_numbers,
-  are_apart,
-  is_before,
-  are_ascending,
-  is_bound,
-  are_levels,
-  are_clients,
-  are_users,
-  is_user_named,
-  are_named,
-  has_secrets_in_range,
-  are_secrets,
-  is_realm,
-};
+ghost use Rattle.realm_data.specs.Realm.{is_within, are_limits, is_otp_rule, is_policy, are_numbers};
+ghost use Rattle.realm_data.specs.Realm.{are_apart, is_before, are_ascending, is_bound, are_levels, are_clients};
+ghost use Rattle.realm_data.specs.Realm.{are_users, is_user_named, are_named};
+ghost use Rattle.realm_data.specs.Realm.{has_secrets_in_range, are_secrets, is_realm};
 ghost use Rattle.realm_data.specs.Secrets.{is_otp_key, are_recovery_digests};
 ghost use Rattle.login_base.specs.Names.{is_name};
 

@@ -1,4 +1,4 @@
-ghost use Rattle.std.specs.Prelude.{◌≡◌, Some, None, if◌then◌else◌};
+ghost use Rattle.std.specs.Prelude.{◌≡◌, IsTrue, Some, None, if◌then◌else◌};
 ghost use Rattle.std.specs.List.{list_all};
 ghost use Rattle.realm_data.specs.Secrets.{is_digest, are_recovery_digests};
 
@@ -42,6 +42,7 @@ impl RecoveryDigests {
     /// The digests, in the order of the codes' numbers.
     pub fn digests(&self) -> &[[u8; 32]]
         ensures digests { result.now ≡ self.now }
+        ensures range { IsTrue (are_recovery_digests self.now) }
     {
         self.digests.as_slice()
     }

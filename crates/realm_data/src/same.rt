@@ -9,7 +9,7 @@ use lockout::Policy;
 use login_base::{Name, Sequence};
 
 /// What can be compared as a whole.
-pub(crate) trait Same {
+pub trait Same {
     fn is_same(&self, other: &Self) -> bool
         ensures value { IsTrue result ↔ (self.now ≡ other.now) };
 }

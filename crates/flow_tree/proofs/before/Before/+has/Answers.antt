@@ -30,4 +30,4 @@ pub returns-else-has-2 : goal.returns-else-has-2
 returns-else-has-2 t c =
     let sought = is_sought c.args.sought.now in
     let parts = ap (list_any sought) (before_all _ _ _ c.in-All.is) ∙ any_append sought (before_of c.in-All.before.now) _ in
-    c.is_among.ensures (depth_of c.in-All.before.now) ∙ sym (parts ∙ ap (λ b. b || list_any sought (places_at (depth_of c.in-All.before.now) c.in-All.execs.now)) (sym c.has-in-All.ensures ∙ c.if-has-2.false))
+    c.is_among.ensures.value (depth_of c.in-All.before.now) ∙ sym (parts ∙ ap (λ b. b || list_any sought (places_at (depth_of c.in-All.before.now) c.in-All.execs.now)) (sym c.has-in-All.ensures ∙ c.if-has-2.false))
