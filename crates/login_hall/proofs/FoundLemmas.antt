@@ -7,7 +7,7 @@ use Rattle.facts.specs.declared.finding.Finding.{Finding}
 use Rattle.facts.specs.declared.finding.PasswordUse.{PasswordUse}
 use Rattle.facts.specs.declared.finding.PasswordUse.TheVariants as uses
 use Rattle.facts.specs.declared.user_password.UserPassword.{UserPassword}
-use Rattle.facts.specs.Passdraws.{password_use, password_text, emptied, is_solved, is_finding_of}
+use Rattle.facts.specs.Passwords.{password_use, password_text, emptied, is_solved, is_finding_of}
 use Rattle.facts.specs.declared.fact.Fact.{Fact}
 use Rattle.facts.specs.declared.finding.Finding.TheVariants as findings
 use Rattle.facts.specs.Solved.{SolvedAsk}

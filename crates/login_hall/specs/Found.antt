@@ -18,7 +18,7 @@ use Rattle.facts.specs.declared.user_password.UserPassword.{UserPassword}
 use Rattle.facts.specs.declared.tabs.Opening.{Opening}
 use Rattle.facts.specs.declared.tabs.TabState.{TabState}
 use Rattle.realm_data.specs.PasswordHash.{is_iterations}
-use Rattle.facts.specs.Passdraws.{password_use, password_text, emptied}
+use Rattle.facts.specs.Passwords.{password_use, password_text, emptied}
 use Rattle.facts.specs.Solved.{SolvedAsk}
 use Rattle.facts.specs.Tabs.{tab_state, who_of}
 use Rattle.mac_kit.specs.Pbkdf2.{pbkdf2_sha256}

@@ -20,7 +20,8 @@ fn tab_in<L: Ledger>(
     ensures state { IfOk result (λ known. known.state ≡ tab_state known.root known.tab facts.now) }
 {
     let state = tab_state(facts, root, tab, steps);
-    match state.opening {
+    let opening = state.opening;
+    match opening {
         Some(opening) => Ok(KnownTab {
             root,
             tab,
