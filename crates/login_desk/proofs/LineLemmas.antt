@@ -3,7 +3,7 @@ use Rattle.std.proofs.Common.{◌≡◌, ◌≢◌, ℕ, ◌+◌, ◌<◌, ◌�
 use Rattle.std.specs.Prelude.{nat_le, nat_lt}
 use Rattle.std.proofs.lemmas.List.{append-nil, length-append}
 use Rattle.std.proofs.lemmas.Bool.Decides.{nat_tests}
-use Rattle.login_desk.specs.Lines.{IsLine, line_limit, is_passed, bad_head, parts_asked, asked_of}
+use Rattle.login_desk.specs.Lines.{IsLine, line_limit, is_skipped, bad_head, parts_ask, line_ask}
 use Rattle.login_desk.specs.Intake.{IsFront, with_byte}
 
 pub IsLine-push : (line : List ℕ) (b : ℕ) → IsLine line → b ≢ 10 → IsLine (line ++ b ∷ [])
@@ -42,9 +42,9 @@ front-none line h = front_is line_limit line [] h (omega arith)
 
 -- ---- the front tells what the line asks
 
-pub is_passed-front : (line kept : List ℕ) → IsFront line_limit line kept → is_passed line ≡ is_passed kept
-is_passed-front line [] h = ap is_passed (front-none line h)
-is_passed-front line (b ∷ kept) h = ap is_passed h.begins
+pub is_skipped-front : (line kept : List ℕ) → IsFront line_limit line kept → is_skipped line ≡ is_skipped kept
+is_skipped-front line [] h = ap is_skipped (front-none line h)
+is_skipped-front line (b ∷ kept) h = ap is_skipped h.begins
 
 -- what depends on a line within the limit alone
 within : {A : Type 0} (limit : ℕ) (line kept : List ℕ) (long : A) (f : List ℕ → A) (t : Bool) → nat_lt limit (length kept) ≡ t → IsFront limit line kept
@@ -55,6 +55,6 @@ within limit line kept long f true e h =
     rw (over, e) refl
 within limit line kept long f false e h = ap (λ l. cond (nat_lt limit (length l)) long (f l)) (front_is limit line kept h (grind (arith, nat_tests)))
 
-pub asked_of-front : (line kept : List ℕ) → IsFront line_limit line kept → asked_of line ≡ asked_of kept
-unfolding asked_of
-asked_of-front line kept h = within line_limit line kept bad_head parts_asked (nat_lt line_limit (length kept)) refl h
+pub line_ask-front : (line kept : List ℕ) → IsFront line_limit line kept → line_ask line ≡ line_ask kept
+unfolding line_ask
+line_ask-front line kept h = within line_limit line kept bad_head parts_ask (nat_lt line_limit (length kept)) refl h

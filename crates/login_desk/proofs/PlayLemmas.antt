@@ -1,5 +1,5 @@
--- Lines that are joined are the lines again, and what one more line adds to a play.
-use Rattle.std.proofs.Common.{◌≡◌, ℕ, ◌+◌, ◌-◌, ◌^◌, ◌<◌, ◌≤◌, Bool, true, false, cond, List, [], ◌∷◌, ◌++◌, length, refl, sym, ap, ◌∙◌, append_assoc, arith}
+-- Lines with their newlines are the lines again, and what one more line adds to a play.
+use Rattle.std.proofs.Common.{◌≡◌, ℕ, ◌+◌, ◌-◌, ◌^◌, ◌<◌, ◌≤◌, Bool, true, false, cond, List, [], ◌∷◌, ◌++◌, length, refl, sym, ap, subst, ◌∙◌, append_assoc, arith}
 use Rattle.std.specs.Prelude.{Option}
 use Rattle.std.specs.List.{AllByRecursion}
 use Rattle.std.proofs.lemmas.Bool.{ne_eqb}
@@ -8,69 +8,75 @@ use Rattle.std.proofs.lemmas.List.{append-nil, length-append}
 use Rattle.std.proofs.lemmas.List.Sums.{fold-append}
 use Rattle.facts.specs.declared.entry.Entry.{Entry}
 use Rattle.facts.specs.declared.fact.Fact.{Fact}
-use Rattle.facts.specs.Realms.{has_realm}
+use Rattle.facts.specs.Realms.{has_realm, last_version}
 use Rattle.facts.specs.Serials.{last_tab_serial, last_stored_serial}
+use Rattle.hall_answers.specs.HasSerials.{HasSerials}
 use Rattle.login_base.specs.Outside.{before_known, after_known}
 use Rattle.login_hall.specs.Found.{solved_of}
 use Rattle.login_hall.specs.Growth.{chronicle_of, last_moment}
 use Rattle.login_hall.specs.HallState.{HallState, facts_of}
 use Rattle.login_hall.specs.Legal.{entry_due}
-use Rattle.login_desk.specs.declared.lines.Asked.{Asked}
+use Rattle.login_desk.specs.declared.lines.LineAsk.{LineAsk}
 use Rattle.login_desk.specs.declared.turn.Turn.{Turn}
 use Rattle.login_desk.specs.declared.turn.Turn.TheVariants as turns
 use Rattle.login_desk.specs.Going.{Going}
 use Rattle.login_desk.specs.Intake.{Held, rest, IsFront, TakesLine, TakesLast, FindsEnd, MeetsFault, MeetsLimit}
-use Rattle.login_desk.specs.Lines.{lines, whole_lines, IsLine, line_limit, ended, joined, is_passed}
-use Rattle.login_desk.specs.Outcome.{IsAnswered, IsStopped, IsOverlong, IsStarved, IsCut, PlayEnds, end_of}
-use Rattle.login_desk.specs.Play.{first_base, entry_of_line, with_line, history, entry_text, text_of, play_text}
-use Rattle.login_desk.specs.Turn.{Answers, TurnEnds, WritesFront, line_text}
+use Rattle.login_desk.specs.Lines.{lines, whole_lines, IsLine, line_limit, with_newline, unlines, is_skipped}
+use Rattle.login_desk.specs.Outcome.{IsAnswered, IsStopped, IsOverlong, IsStarved, IsCutOff, PlayEnds, end_of}
+use Rattle.login_desk.specs.Outcome.IsReplyDue.{Whole, Ended}
+use Rattle.login_desk.specs.Outside.{OutsideState, IsUnread}
+use Rattle.login_desk.specs.Play.{Play, entry_of_line, with_entry, with_line, play, play_text}
+use Rattle.login_desk.specs.Turn.{Answers, TurnEnds, WritesFront, line_play}
 use Rattle.login_desk.proofs.KnownLemmas.{before_known-nil, after_known-nil, after_known-append, one_more}
-use Rattle.login_desk.proofs.LineLemmas.{is_passed-front, asked_of-front}
+use Rattle.login_desk.proofs.LineLemmas.{is_skipped-front, line_ask-front}
 
 -- ---- lines of bytes
 
-lines-ended : (line later : List ℕ) → IsLine line → lines (ended line ++ later) ≡ line ∷ lines later
+lines-with_newline : (line later : List ℕ) → IsLine line → lines (with_newline line ++ later) ≡ line ∷ lines later
 unfolding lines
-lines-ended [] later h = refl
-lines-ended (b ∷ line) later h = rw (ne_eqb b 10 h.0, lines-ended line later h.1) refl
+lines-with_newline [] later h = refl
+lines-with_newline (b ∷ line) later h = rw (ne_eqb b 10 h.0, lines-with_newline line later h.1) refl
 
 lines-last : (b : ℕ) (line : List ℕ) → IsLine (b ∷ line) → lines (b ∷ line) ≡ (b ∷ line) ∷ []
 unfolding lines
 lines-last b [] h = rw (ne_eqb b 10 h.0) refl
 lines-last b (c ∷ line) h = rw (ne_eqb b 10 h.0, lines-last c line h.1) refl
 
-whole_lines-ended : (line later : List ℕ) → IsLine line → whole_lines (ended line ++ later) ≡ line ∷ whole_lines later
+whole_lines-with_newline : (line later : List ℕ) → IsLine line → whole_lines (with_newline line ++ later) ≡ line ∷ whole_lines later
 unfolding whole_lines
-whole_lines-ended [] later h = refl
-whole_lines-ended (b ∷ line) later h = rw (ne_eqb b 10 h.0, whole_lines-ended line later h.1) refl
+whole_lines-with_newline [] later h = refl
+whole_lines-with_newline (b ∷ line) later h = rw (ne_eqb b 10 h.0, whole_lines-with_newline line later h.1) refl
 
 whole_lines-part : (part : List ℕ) → IsLine part → whole_lines part ≡ []
 unfolding whole_lines
 whole_lines-part [] h = refl
 whole_lines-part (b ∷ part) h = rw (ne_eqb b 10 h.0, whole_lines-part part h.1) refl
 
-lines-joined : (done : List (List ℕ)) (later : List ℕ) → AllByRecursion IsLine done → lines (joined done ++ later) ≡ done ++ lines later
-lines-joined [] later h = refl
-lines-joined (line ∷ done) later h = ap lines (append_assoc (ended line) (joined done) later) ∙ lines-ended line (joined done ++ later) h.0 ∙ ap (λ l. line ∷ l) (lines-joined done later h.1)
+lines-unlines : (done : List (List ℕ)) (later : List ℕ) → AllByRecursion IsLine done → lines (unlines done ++ later) ≡ done ++ lines later
+lines-unlines [] later h = refl
+lines-unlines (line ∷ done) later h = ap lines (append_assoc (with_newline line) (unlines done) later) ∙ lines-with_newline line (unlines done ++ later) h.0 ∙ ap (λ l. line ∷ l) (lines-unlines done later h.1)
 
-whole_lines-joined : (done : List (List ℕ)) (part : List ℕ) → AllByRecursion IsLine done → IsLine part → whole_lines (joined done ++ part) ≡ done
-whole_lines-joined [] part h p = whole_lines-part part p
-whole_lines-joined (line ∷ done) part h p = ap whole_lines (append_assoc (ended line) (joined done) part) ∙ whole_lines-ended line (joined done ++ part) h.0 ∙ ap (λ l. line ∷ l) (whole_lines-joined done part h.1 p)
+whole_lines-unlines : (done : List (List ℕ)) (part : List ℕ) → AllByRecursion IsLine done → IsLine part → whole_lines (unlines done ++ part) ≡ done
+whole_lines-unlines [] part h p = whole_lines-part part p
+whole_lines-unlines (line ∷ done) part h p = ap whole_lines (append_assoc (with_newline line) (unlines done) part) ∙ whole_lines-with_newline line (unlines done ++ part) h.0 ∙ ap (λ l. line ∷ l) (whole_lines-unlines done part h.1 p)
 
-lines-all : (done : List (List ℕ)) → AllByRecursion IsLine done → lines (joined done) ≡ done
+lines-all : (done : List (List ℕ)) → AllByRecursion IsLine done → lines (unlines done) ≡ done
 unfolding lines
-lines-all done h = ap lines (sym (append-nil (joined done))) ∙ lines-joined done [] h ∙ append-nil done
+lines-all done h = ap lines (sym (append-nil (unlines done))) ∙ lines-unlines done [] h ∙ append-nil done
 
-lines-with_last : (done : List (List ℕ)) (line : List ℕ) → AllByRecursion IsLine done → IsLine line → 0 < length line → lines (joined done ++ line) ≡ done ++ line ∷ []
+lines-with_last : (done : List (List ℕ)) (line : List ℕ) → AllByRecursion IsLine done → IsLine line → 0 < length line → lines (unlines done ++ line) ≡ done ++ line ∷ []
 lines-with_last done [] h p some = absurd (omega arith)
-lines-with_last done (b ∷ line) h p some = lines-joined done (b ∷ line) h ∙ ap (λ l. done ++ l) (lines-last b line p)
+lines-with_last done (b ∷ line) h p some = lines-unlines done (b ∷ line) h ∙ ap (λ l. done ++ l) (lines-last b line p)
 
-length-joined : (done : List (List ℕ)) → length done ≤ length (joined done)
-length-joined [] = omega arith
-length-joined (line ∷ done) = omega (arith, length-joined done, length-append (ended line) (joined done), length-append line (10 ∷ []))
+length-unlines : (done : List (List ℕ)) → length done ≤ length (unlines done)
+length-unlines [] = omega arith
+length-unlines (line ∷ done) = omega (arith, length-unlines done, length-append (with_newline line) (unlines done), length-append line (10 ∷ []))
 
-joined-push : (done : List (List ℕ)) (line : List ℕ) → joined (done ++ line ∷ []) ≡ joined done ++ ended line
-joined-push done line = flat_map-append ended done (line ∷ []) ∙ ap (λ l. joined done ++ l) (append-nil (ended line))
+whole_lines-all : (done : List (List ℕ)) → AllByRecursion IsLine done → whole_lines (unlines done) ≡ done
+whole_lines-all done h = ap whole_lines (sym (append-nil (unlines done))) ∙ whole_lines-unlines done [] h tt
+
+unlines-push : (done : List (List ℕ)) (line : List ℕ) → unlines (done ++ line ∷ []) ≡ unlines done ++ with_newline line
+unlines-push done line = flat_map-append with_newline done (line ∷ []) ∙ ap (λ l. unlines done ++ l) (append-nil (with_newline line))
 
 all-push : (done : List (List ℕ)) (line : List ℕ) → AllByRecursion IsLine done → IsLine line → AllByRecursion IsLine (done ++ line ∷ [])
 all-push [] line h p = (p, tt)
@@ -78,176 +84,203 @@ all-push (first ∷ done) line h p = (h.0, all-push done line h.1 p)
 
 -- ---- plays
 
-history-push : (base : List Fact) (done : List (List ℕ)) (line : List ℕ) → history base (done ++ line ∷ []) ≡ with_line base (history base done) line
-unfolding history
-history-push base done line = fold-append (with_line base) [] done (line ∷ [])
+play-push : (base : List Fact) (done : List (List ℕ)) (line : List ℕ) → play base (done ++ line ∷ []) ≡ with_line base (play base done) line
+unfolding play
+play-push base done line = fold-append (with_line base) _ done (line ∷ [])
 
-text_of-push : (journal : List Entry) (entry : Entry) → text_of (journal ++ entry ∷ []) ≡ text_of journal ++ entry_text entry
-unfolding text_of
-text_of-push journal entry = flat_map-append entry_text journal (entry ∷ []) ∙ ap (λ l. text_of journal ++ l) (append-nil (entry_text entry))
+-- what a line adds to a play is the play of the line after its journal
+module _ (before : Play) (entry : Entry) where
+  abbrev after_journal : Play
+  after_journal = record { journal = before.journal; text = []; begun = [] }
 
-text_of-with : (journal : List Entry) (entry : Entry) (passed : Bool) → text_of (cond passed journal (journal ++ entry ∷ [])) ≡ text_of journal ++ cond passed [] (entry_text entry)
-text_of-with journal entry true = sym (append-nil (text_of journal))
-text_of-with journal entry false = text_of-push journal entry
+  text-with : (skipped : Bool) → (cond skipped before (with_entry before entry)).text ≡ before.text ++ (cond skipped after_journal (with_entry after_journal entry)).text
+  text-with true = sym (append-nil before.text)
+  text-with false = refl
 
-text_of-with_line : (base : List Fact) (journal : List Entry) (line : List ℕ) → text_of (with_line base journal line) ≡ text_of journal ++ line_text base journal line
-text_of-with_line base journal line = text_of-with journal (entry_of_line base journal line) (is_passed line)
+  journal-with : (skipped : Bool) → (cond skipped before (with_entry before entry)).journal ≡ (cond skipped after_journal (with_entry after_journal entry)).journal
+  journal-with true = refl
+  journal-with false = refl
+
+text-with_line : (base : List Fact) (before : Play) (line : List ℕ) → (with_line base before line).text ≡ before.text ++ (line_play base before.journal line).text
+text-with_line base before line = text-with before (entry_of_line base before.journal line) (is_skipped line)
+
+journal-with_line : (base : List Fact) (before : Play) (line : List ℕ) → (with_line base before line).journal ≡ (line_play base before.journal line).journal
+journal-with_line base before line = journal-with before (entry_of_line base before.journal line) (is_skipped line)
 
 -- what is kept of a line stands for the line
 module _ (base : List Fact) (journal : List Entry) (line kept : List ℕ) (h : IsFront line_limit line kept) where
   entry-front : entry_of_line base journal kept ≡ entry_of_line base journal line
-  entry-front = ap (λ (asked : Asked). entry_due base journal 0 asked.moment asked.words (solved_of (chronicle_of base journal) (last_moment base journal) asked.ask asked.words)) (sym (asked_of-front line kept h))
+  entry-front = ap (λ (asks : LineAsk). entry_due base journal 0 asks.moment asks.draws (solved_of (chronicle_of base journal) (last_moment base journal) asks.ask asks.draws)) (sym (line_ask-front line kept h))
 
-  with_line-front : with_line base journal kept ≡ with_line base journal line
-  with_line-front = λ i. cond (sym (is_passed-front line kept h) i) journal (journal ++ entry-front i ∷ [])
-
-  line_text-front : line_text base journal kept ≡ line_text base journal line
-  line_text-front = λ i. cond (sym (is_passed-front line kept h) i) [] (entry_text (entry-front i))
+  line_play-front : line_play base journal kept ≡ line_play base journal line
+  line_play-front =
+      let start : Play = record { journal = journal; text = []; begun = [] } in
+      λ i. cond (sym (is_skipped-front line kept h) i) start (with_entry start (entry-front i))
 
 -- ---- between two lines
 
-no_tabs : (hall : HallState) → hall.base ≡ first_base → hall.journal ≡ [] → last_tab_serial (facts_of hall) ≡ 0
-unfolding chronicle_of last_tab_serial
-no_tabs hall b j = ap last_tab_serial (ap (λ x. chronicle_of x hall.journal) b ∙ ap (chronicle_of first_base) j)
+facts-start : (hall : HallState) → hall.journal ≡ [] → facts_of hall ≡ hall.base
+unfolding chronicle_of
+facts-start hall j = ap (chronicle_of hall.base) j ∙ append-nil hall.base
 
-none_stored : (hall : HallState) → hall.base ≡ first_base → hall.journal ≡ [] → last_stored_serial (facts_of hall) ≡ 0
-unfolding chronicle_of last_stored_serial
-none_stored hall b j = ap last_stored_serial (ap (λ x. chronicle_of x hall.journal) b ∙ ap (chronicle_of first_base) j)
+pub starts : {S : Type 0} (old : OutsideState S) (held : Held) (hall : HallState) → held.pending ≡ [] → held.taken ≡ 0 → hall.journal ≡ [] → has_realm hall.base ≡ true → Going hall.base old old held hall
+unfolding play
+starts old held hall p t j r =
+    let facts = facts-start hall j in
+    record {
+      done = [];
+      plain = tt;
+      came = sym (before_known-nil old.script) ∙ ap (λ l. before_known l old.script) (sym p) ∙ sym (before_known-nil (rest held old.script));
+      count = t;
+      text = after_known-nil old.written;
+      over = refl;
+      journal = j;
+      realm = ap has_realm facts ∙ r;
+      tabs = omega (arith, ap last_tab_serial facts);
+      stored = omega (arith, ap last_stored_serial facts);
+      version = omega (arith, ap last_version facts);
+      reads = omega arith;
+      puts = omega arith;
+      ends = refl;
+    }
 
-first_realm : (hall : HallState) → hall.base ≡ first_base → hall.journal ≡ [] → has_realm (facts_of hall) ≡ true
-unfolding chronicle_of has_realm
-first_realm hall b j = ap has_realm (ap (λ x. chronicle_of x hall.journal) b ∙ ap (chronicle_of first_base) j)
-
-pub starts : (script before : Option (List ℕ)) (held : Held) (hall : HallState) → held.pending ≡ [] → held.taken ≡ 0 → hall.base ≡ first_base → hall.journal ≡ [] → Going script script before before held hall
-unfolding history text_of
-starts script before held hall p t b j = record {
-  done = [];
-  plain = tt;
-  came = sym (before_known-nil script) ∙ ap (λ l. before_known l script) (sym p) ∙ sym (before_known-nil (rest held script));
-  count = t;
-  text = after_known-nil before;
-  base = b;
-  journal = j;
-  realm = first_realm hall b j;
-  tabs = omega (arith, no_tabs hall b j);
-  stored = omega (arith, none_stored hall b j);
-}
-
-module _ (script left before after : Option (List ℕ)) (held : Held) (hall : HallState) (h : Going script left before after held hall) where
+module _ {S : Type 0} (base : List Fact) (old now : OutsideState S) (held : Held) (hall : HallState) (h : Going base old now held hall) where
   -- so few lines leave room for more serials
-  pub few_tabs : held.taken ≤ 2 ^ 32 → last_tab_serial (facts_of hall) ≤ 2 ^ 63 - 8
-  few_tabs le = omega (arith, h.tabs, h.count, length-joined h.done)
+  pub few_serials : HasSerials base (2 ^ 62) → held.taken ≤ 2 ^ 32 → HasSerials (facts_of hall) (2 ^ 63 - 8)
+  few_serials first le = record {
+    tabs = omega (arith, first.tabs, h.tabs, h.count, length-unlines h.done);
+    stored = omega (arith, first.stored, h.stored, h.count, length-unlines h.done);
+    version = omega (arith, first.version, h.version, h.count, length-unlines h.done);
+  }
 
-  pub few_stored : held.taken ≤ 2 ^ 32 → last_stored_serial (facts_of hall) ≤ 2 ^ 63 - 8
-  few_stored le = omega (arith, h.stored, h.count, length-joined h.done)
+  same_play : (line kept : List ℕ) → IsFront line_limit line kept → line_play hall.base hall.journal kept ≡ line_play base (play base h.done).journal line
+  same_play line kept f = line_play-front hall.base hall.journal line kept f ∙ ap (λ b. line_play b hall.journal line) h.over ∙ ap (λ j. line_play base j line) h.journal
 
-  text-push : (line kept : List ℕ) → IsFront line_limit line kept → play_text h.done ++ line_text hall.base hall.journal kept ≡ play_text (h.done ++ line ∷ [])
+  text-push : (line kept : List ℕ) → IsFront line_limit line kept → play_text base h.done ++ (line_play hall.base hall.journal kept).text ≡ play_text base (h.done ++ line ∷ [])
   text-push line kept f =
-      ap (λ l. play_text h.done ++ l) (line_text-front hall.base hall.journal line kept f ∙ ap (λ b. line_text b hall.journal line) h.base ∙ ap (λ j. line_text first_base j line) h.journal)
-      ∙ sym (text_of-with_line first_base (history first_base h.done) line)
-      ∙ ap text_of (sym (history-push first_base h.done line))
+      ap (λ (p : Play). play_text base h.done ++ p.text) (same_play line kept f)
+      ∙ sym (text-with_line base (play base h.done) line)
+      ∙ ap (λ (p : Play). p.text) (sym (play-push base h.done line))
 
-  told : (later : Option (List ℕ)) (line kept : List ℕ) → IsFront line_limit line kept → later ≡ after_known after (line_text hall.base hall.journal kept) → later ≡ after_known before (play_text (h.done ++ line ∷ []))
-  told later line kept f e =
-      e ∙ ap (λ x. after_known x (line_text hall.base hall.journal kept)) h.text ∙ after_known-append before (play_text h.done) (line_text hall.base hall.journal kept) ∙ ap (after_known before) (text-push line kept f)
+  told : (written : Option (List ℕ)) (line kept : List ℕ) → IsFront line_limit line kept → written ≡ after_known now.written (line_play hall.base hall.journal kept).text → written ≡ after_known old.written (play_text base (h.done ++ line ∷ []))
+  told written line kept f e =
+      e ∙ ap (λ x. after_known x (line_play hall.base hall.journal kept).text) h.text
+      ∙ after_known-append old.written (play_text base h.done) (line_play hall.base hall.journal kept).text ∙ ap (after_known old.written) (text-push line kept f)
 
-  front : (later : Option (List ℕ)) (line kept : List ℕ) → IsFront line_limit line kept → WritesFront after later (line_text hall.base hall.journal kept) → WritesFront before later (play_text (h.done ++ line ∷ []))
-  front later line kept f w = record {
-    front = play_text h.done ++ w.front;
+  front : (written : Option (List ℕ)) (line kept : List ℕ) → IsFront line_limit line kept → WritesFront now.written written (line_play hall.base hall.journal kept).text → WritesFront old.written written (play_text base (h.done ++ line ∷ []))
+  front written line kept f w = record {
+    front = play_text base h.done ++ w.front;
     unwritten = w.unwritten;
-    cut = sym (text-push line kept f) ∙ ap (λ l. play_text h.done ++ l) w.cut ∙ sym (append_assoc (play_text h.done) w.front w.unwritten);
-    written = w.written ∙ ap (λ x. after_known x w.front) h.text ∙ after_known-append before (play_text h.done) w.front;
+    cut = sym (text-push line kept f) ∙ ap (λ l. play_text base h.done ++ l) w.cut ∙ sym (append_assoc (play_text base h.done) w.front w.unwritten);
+    written = w.written ∙ ap (λ x. after_known x w.front) h.text ∙ after_known-append old.written (play_text base h.done) w.front;
   }
 
-  pub starved : (later : Option (List ℕ)) → later ≡ after → IsStarved script before later
-  starved later e = record {
-    bytes = joined h.done;
-    later = rest held left;
+  pub starved : (new : OutsideState S) → new.written ≡ now.written → IsStarved base old new
+  starved new e = record {
+    bytes = unlines h.done;
+    later = rest held now.script;
     taken = h.came;
-    text = e ∙ h.text ∙ ap (λ l. after_known before (play_text l)) (sym (lines-all h.done h.plain));
+    text = e ∙ h.text ∙ ap (λ l. after_known old.written (play_text base l)) (sym (whole_lines-all h.done h.plain));
   }
 
-  pub answered : (new : Option (List ℕ)) → FindsEnd held left new → IsAnswered script new before after
-  answered new t = record {
-    bytes = joined h.done;
-    taken = h.came ∙ ap (before_known (joined h.done)) t.came;
+  pub answered : (new : OutsideState S) → new.written ≡ now.written → FindsEnd held now.script new.script → IsAnswered base old new
+  answered new e t = record {
+    bytes = unlines h.done;
+    taken = h.came ∙ ap (before_known (unlines h.done)) t.came;
     end = t.end;
     short = omega (arith, h.count, t.short);
-    text = h.text ∙ ap (λ l. after_known before (play_text l)) (sym (lines-all h.done h.plain));
+    text = e ∙ h.text ∙ ap (λ l. after_known old.written (play_text base l)) (sym (lines-all h.done h.plain));
   }
 
-  part_text : (part : List ℕ) → IsLine part → after ≡ after_known before (play_text (whole_lines (joined h.done ++ part)) ++ [])
-  part_text part p = h.text ∙ ap (λ l. after_known before (play_text l)) (sym (whole_lines-joined h.done part h.plain p)) ∙ ap (after_known before) (sym (append-nil (play_text (whole_lines (joined h.done ++ part)))))
+  part_text : (written : Option (List ℕ)) (part : List ℕ) → written ≡ now.written → IsLine part → written ≡ after_known old.written (play_text base (whole_lines (unlines h.done ++ part)) ++ [])
+  part_text written part e p =
+      e ∙ h.text ∙ ap (λ l. after_known old.written (play_text base l)) (sym (whole_lines-unlines h.done part h.plain p))
+      ∙ ap (after_known old.written) (sym (append-nil (play_text base (whole_lines (unlines h.done ++ part)))))
 
-  pub stopped : (new : Option (List ℕ)) → MeetsFault held left new → IsStopped script new before after []
-  stopped new t = record {
-    bytes = joined h.done ++ t.part;
-    taken = one_more script (rest held left) new (joined h.done) t.part h.came t.came;
-    short = omega (arith, h.count, t.short, length-append (joined h.done) t.part);
-    text = part_text t.part t.plain;
+  pub stopped : (new : OutsideState S) → new.written ≡ now.written → MeetsFault held now.script new.script → IsStopped base old new []
+  stopped new e t = record {
+    bytes = unlines h.done ++ t.part;
+    taken = one_more old.script (rest held now.script) new.script (unlines h.done) t.part h.came t.came;
+    short = omega (arith, h.count, t.short, length-append (unlines h.done) t.part);
+    text = part_text new.written t.part e t.plain;
   }
 
-  pub overlong : MeetsLimit held left → IsOverlong script before after []
-  overlong t = record {
-    bytes = joined h.done ++ t.part;
+  pub overlong : (new : OutsideState S) → new.written ≡ now.written → MeetsLimit held now.script → IsOverlong base old new []
+  overlong new e t = record {
+    bytes = unlines h.done ++ t.part;
     later = t.later;
-    taken = one_more script (rest held left) t.later (joined h.done) t.part h.came t.came;
-    full = omega (arith, h.count, t.full, length-append (joined h.done) t.part);
-    text = part_text t.part t.plain;
+    taken = one_more old.script (rest held now.script) t.later (unlines h.done) t.part h.came t.came;
+    full = omega (arith, h.count, t.full, length-append (unlines h.done) t.part);
+    text = part_text new.written t.part e t.plain;
   }
 
-  module _ (kept : List ℕ) (next : Held) (new later : Option (List ℕ)) (t : TakesLine held left kept next new) where
-    came_line : script ≡ before_known (joined (h.done ++ t.line ∷ [])) (rest next new)
-    came_line = one_more script (rest held left) (rest next new) (joined h.done) (ended t.line) h.came t.came ∙ ap (λ l. before_known l (rest next new)) (sym (joined-push h.done t.line))
+  -- a line was taken, and then something was written
+  module _ (kept : List ℕ) (mid new : OutsideState S) (same : mid.written ≡ now.written) (unread : IsUnread mid new) where
+    module _ (next : Held) (taken : TakesLine held now.script kept next mid.script) where
+      t : TakesLine held now.script kept next new.script
+      t = subst (λ s. TakesLine held now.script kept next s) (sym unread.script) taken
 
-    pub cut : WritesFront after later (line_text hall.base hall.journal kept) → IsCut script before later
-    cut w = record {
-      bytes = joined (h.done ++ t.line ∷ []);
-      later = rest next new;
-      taken = came_line;
-      front = rw (lines-all (h.done ++ t.line ∷ []) (all-push h.done t.line h.plain t.plain)) (front later t.line kept t.front w);
-    }
+      came_line : old.script ≡ before_known (unlines (h.done ++ t.line ∷ [])) (rest next new.script)
+      came_line =
+          one_more old.script (rest held now.script) (rest next new.script) (unlines h.done) (with_newline t.line) h.came t.came
+          ∙ ap (λ l. before_known l (rest next new.script)) (sym (unlines-push h.done t.line))
 
-    pub goes_on : (grown : HallState) → Answers hall grown kept → later ≡ after_known after (line_text hall.base hall.journal kept) → Going script new before later next grown
-    goes_on grown a e =
-        let pushed : length (h.done ++ t.line ∷ []) ≡ length h.done + 1 = length-append h.done (t.line ∷ []) in
-        record {
-          done = h.done ++ t.line ∷ [];
-          plain = all-push h.done t.line h.plain t.plain;
-          came = came_line;
-          count = let e = ap length (joined-push h.done t.line) in omega (arith, e, t.count, h.count, length-append (joined h.done) (ended t.line), length-append t.line (10 ∷ []));
-          text = told later t.line kept t.front e;
-          base = a.base ∙ h.base;
-          journal = a.journal ∙ with_line-front hall.base hall.journal t.line kept t.front ∙ ap (λ b. with_line b hall.journal t.line) h.base ∙ ap (λ j. with_line first_base j t.line) h.journal ∙ sym (history-push first_base h.done t.line);
-          realm = a.realm h.realm;
-          tabs = omega (arith, a.tabs, h.tabs, pushed);
-          stored = omega (arith, a.stored, h.stored, pushed);
-        }
+      pub cut : WritesFront mid.written new.written (line_play hall.base hall.journal kept).text → IsCutOff base old new
+      cut w = record {
+        due = play_text base (h.done ++ t.line ∷ []);
+        is_due = Whole (unlines (h.done ++ t.line ∷ [])) (rest next new.script) came_line (ap (play_text base) (sym (whole_lines-all (h.done ++ t.line ∷ []) (all-push h.done t.line h.plain t.plain))));
+        front = front new.written t.line kept t.front (subst (λ x. WritesFront x new.written (line_play hall.base hall.journal kept).text) same w);
+      }
 
-  module _ (kept : List ℕ) (new later : Option (List ℕ)) (t : TakesLast held left kept new) where
-    came_last : script ≡ before_known (joined h.done ++ t.line) new
-    came_last = one_more script (rest held left) new (joined h.done) t.line h.came t.came
+      pub goes_on : (grown : HallState) → Answers hall grown kept → new.written ≡ after_known mid.written (line_play hall.base hall.journal kept).text → now.read_faults ≤ mid.read_faults
+          → now.write_faults ≤ new.write_faults → mid.ends ≡ now.ends → Going base old new next grown
+      goes_on grown a e reads puts ends =
+          let pushed : length (h.done ++ t.line ∷ []) ≡ length h.done + 1 = length-append h.done (t.line ∷ []) in
+          record {
+            done = h.done ++ t.line ∷ [];
+            plain = all-push h.done t.line h.plain t.plain;
+            came = came_line;
+            count = let e = ap length (unlines-push h.done t.line) in omega (arith, e, t.count, h.count, length-append (unlines h.done) (with_newline t.line), length-append t.line (10 ∷ []));
+            text = told new.written t.line kept t.front (e ∙ ap (λ x. after_known x (line_play hall.base hall.journal kept).text) same);
+            over = a.base ∙ h.over;
+            journal =
+                a.journal ∙ ap (λ (p : Play). p.journal) (same_play t.line kept t.front) ∙ sym (journal-with_line base (play base h.done) t.line)
+                ∙ ap (λ (p : Play). p.journal) (sym (play-push base h.done t.line));
+            realm = a.realm h.realm;
+            tabs = omega (arith, a.tabs, h.tabs, pushed);
+            stored = omega (arith, a.stored, h.stored, pushed);
+            version = omega (arith, a.version, h.version, pushed);
+            reads = omega (arith, reads, h.reads, unread.faults);
+            puts = omega (arith, puts, h.puts);
+            ends = unread.ends ∙ ends ∙ h.ends;
+          }
 
-    is_last : lines (joined h.done ++ t.line) ≡ h.done ++ t.line ∷ []
-    is_last = lines-with_last h.done t.line h.plain t.plain t.some
+    module _ (taken : TakesLast held now.script kept mid.script) where
+      last : TakesLast held now.script kept new.script
+      last = subst (λ s. TakesLast held now.script kept s) (sym unread.script) taken
 
-    pub last_turn : (grown : HallState) (turn : Turn) → TurnEnds hall grown kept after later turn → PlayEnds script new before later (end_of turn)
-    last_turn grown turns.Told e = record {
-      bytes = joined h.done ++ t.line;
-      taken = came_last;
-      end = t.end;
-      short = omega (arith, h.count, t.short, length-append (joined h.done) t.line);
-      text = told later t.line kept t.front e.1 ∙ ap (λ l. after_known before (play_text l)) (sym is_last);
-    }
-    last_turn grown turns.Failed w = record {
-      bytes = joined h.done ++ t.line;
-      later = new;
-      taken = came_last;
-      front = rw is_last (front later t.line kept t.front w);
-    }
-    last_turn grown turns.Memory e = starved later e
+      came_last : old.script ≡ before_known (unlines h.done ++ last.line) new.script
+      came_last = one_more old.script (rest held now.script) new.script (unlines h.done) last.line h.came last.came
+
+      is_last : lines (unlines h.done ++ last.line) ≡ h.done ++ last.line ∷ []
+      is_last = lines-with_last h.done last.line h.plain last.plain last.some
+
+      pub last_turn : (grown : HallState) (turn : Turn) → TurnEnds hall grown kept mid.written new.written turn → PlayEnds base old new (end_of turn)
+      last_turn grown turns.Told e = record {
+        bytes = unlines h.done ++ last.line;
+        taken = came_last;
+        end = last.end;
+        short = omega (arith, h.count, last.short, length-append (unlines h.done) last.line);
+        text = told new.written last.line kept last.front (e.1 ∙ ap (λ x. after_known x (line_play hall.base hall.journal kept).text) same) ∙ ap (λ l. after_known old.written (play_text base l)) (sym is_last);
+      }
+      last_turn grown turns.Failed w = record {
+        due = play_text base (h.done ++ last.line ∷ []);
+        is_due = Ended (unlines h.done ++ last.line) came_last last.end (ap (play_text base) (sym is_last));
+        front = front new.written last.line kept last.front (subst (λ x. WritesFront x new.written (line_play hall.base hall.journal kept).text) same w);
+      }
+      last_turn grown turns.Memory e = starved new (e ∙ same)
 
 -- nothing was taken, and nothing written
-pub starved_first : (script before : Option (List ℕ)) → IsStarved script before before
-unfolding lines history text_of
-starved_first script before = record { bytes = []; later = script; taken = sym (before_known-nil script); text = after_known-nil before }
+pub starved_first : {S : Type 0} (base : List Fact) (old : OutsideState S) → IsStarved base old old
+unfolding whole_lines play
+starved_first base old = record { bytes = []; later = old.script; taken = sym (before_known-nil old.script); text = after_known-nil old.written }

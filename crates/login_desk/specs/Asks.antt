@@ -17,9 +17,9 @@ use Rattle.facts.specs.declared.ask.Form.TheVariants as forms
 use Rattle.login_desk.specs.declared.pairs.Pair.{Pair}
 use Rattle.login_desk.specs.declared.place.Place.{Place}
 use Rattle.login_desk.specs.declared.place.Place.TheVariants as places
-use Rattle.login_desk.specs.declared.posted_to.FormKind.{FormKind}
-use Rattle.login_desk.specs.declared.posted_to.FormKind.TheVariants as kinds
-use Rattle.login_desk.specs.declared.posted_to.PostedTo.{PostedTo}
+use Rattle.login_desk.specs.declared.post_target.FormKind.{FormKind}
+use Rattle.login_desk.specs.declared.post_target.FormKind.TheVariants as kinds
+use Rattle.login_desk.specs.declared.post_target.PostTarget.{PostTarget}
 use Rattle.login_desk.specs.Pairs.{has, value_of}
 use Rattle.login_desk.specs.Places.{place_text}
 
@@ -30,9 +30,9 @@ abbrev pub ◌>>=◌ : {A B : Type 0} → Result A Place → (A → Result B Pla
 (Err place) >>= f = Err place
 
 -- what was read, or the malformed place
-abbrev pub asked : Result Ask Place → Ask
-asked (Ok ask) = ask
-asked (Err place) = asks.Bad (place_text place)
+abbrev pub ask_or_bad : Result Ask Place → Ask
+ask_or_bad (Ok ask) = ask
+ask_or_bad (Err place) = asks.Bad (place_text place)
 
 -- the pair of this name isn't there
 abbrev pub absent : Place → List Pair → Result (Unit {0}) Place
@@ -57,7 +57,7 @@ open_form pairs = do
   absent places.Root pairs
 
 abbrev pub open_ask : Result (Unit {0}) Place → Ask
-open_ask (Ok form) = asks.NewTab None (codes "app") None
+open_ask (Ok form) = asks.NewTab (record { root = None; client = codes "app"; acr = None })
 open_ask (Err place) = asks.Bad (place_text place)
 
 -- ---- names and passwords
@@ -101,7 +101,7 @@ user_setup pairs = do
   absent places.Actions pairs
 
 abbrev pub added_user : List ℕ → Option (List ℕ) → Result (Unit {0}) Place → Ask
-added_user name password (Ok setup) = asks.Admin accesses.Local (verbs.UserAdd name password None [] [])
+added_user name password (Ok setup) = asks.Admin accesses.Local (verbs.UserAdd (record { name = name; password = password; otp = None; roles = []; actions = [] }))
 added_user name password (Err place) = asks.Bad (place_text place)
 
 abbrev pub user_add_ask : Option (List ℕ) → List Pair → Ask
@@ -147,8 +147,8 @@ form_kind pairs =
     else Err places.Form
 
 -- what a post is posted to, and as which form
-unfoldable pub posted_to : List Pair → Result PostedTo Place
-posted_to pairs = do
+unfoldable pub post_target : List Pair → Result PostTarget Place
+post_target pairs = do
   root ← root_given pairs
   tab ← id_given places.Tab pairs
   code ← id_given places.Code pairs
@@ -178,9 +178,9 @@ form_of kind pairs = form_with kind (exact_name (value_of (codes "execution") pa
 -- the post of a form
 abbrev pub post : List Pair → Result Ask Place
 post pairs = do
-  to ← posted_to pairs
+  to ← post_target pairs
   form ← form_of to.form pairs
-  Ok (asks.Post to.root to.tab to.code form)
+  Ok (asks.Post (record { root = to.root; tab = to.tab; code = to.code; form = form }))
 
 -- ---- verbs
 
@@ -189,6 +189,6 @@ unfoldable pub verb_ask : List ℕ → List Pair → Ask
 verb_ask verb pairs =
     if bytes_eq verb (codes "open") then open_ask (open_form pairs)
     else if bytes_eq verb (codes "user-add") then user_add_ask (user_name (value_of (codes "name") pairs)) pairs
-    else if bytes_eq verb (codes "page") then asked (page pairs)
-    else if bytes_eq verb (codes "post") then asked (post pairs)
+    else if bytes_eq verb (codes "page") then ask_or_bad (page pairs)
+    else if bytes_eq verb (codes "post") then ask_or_bad (post pairs)
     else asks.Bad (codes "verb")

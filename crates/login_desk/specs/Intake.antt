@@ -1,7 +1,7 @@
 -- Bytes and lines that are taken from a source.
 use Rattle.std.specs.Prelude.{◌≡◌, ℕ, ◌+◌, ◌^◌, ◌<◌, ◌≤◌, Bool, true, false, nat_le, List, [], ◌∷◌, ◌++◌, length, Option, if◌then◌else◌}
 use Rattle.login_base.specs.Outside.{before_known, counted, IsAtEnd}
-use Rattle.login_desk.specs.Lines.{IsLine, ended, line_limit}
+use Rattle.login_desk.specs.Lines.{IsLine, with_newline, line_limit}
 use Rattle.login_desk.specs.declared.intake.Byte.{Byte}
 use Rattle.login_desk.specs.declared.intake.Byte.TheVariants as bytes
 use Rattle.login_desk.specs.declared.intake.Refill.{Refill}
@@ -77,7 +77,7 @@ pub record TakesLine (old : Held) (left : Option (List ℕ)) (kept : List ℕ) (
   pub line : List ℕ
   pub plain : IsLine line
   pub front : IsFront line_limit line kept
-  pub came : rest old left ≡ before_known (ended line) (rest new after)
+  pub came : rest old left ≡ before_known (with_newline line) (rest new after)
   pub count : new.taken ≡ old.taken + length line + 1
 
 -- a last line was taken, which has no newline, and nothing is left

@@ -2,9 +2,9 @@
 use Rattle.std.specs.Prelude.{◌≢◌, ℕ, ◌+◌, ◌-◌, ◌^◌, ◌%◌, Bool, true, ◌==◌, nat_lt, List, [], ◌∷◌, ◌++◌, length, Option, Some, None, codes, if◌then◌else◌}
 use Rattle.std.specs.List.{flat_map, AllByRecursion}
 use Rattle.form_urlencoded.specs.Form.{split_once}
-use Rattle.login_base.specs.declared.words.Words.{Words}
+use Rattle.login_base.specs.declared.draws.Draws.{Draws}
 use Rattle.facts.specs.declared.ask.Ask.TheVariants as asks
-use Rattle.login_desk.specs.declared.lines.Asked.{Asked}
+use Rattle.login_desk.specs.declared.lines.LineAsk.{LineAsk}
 use Rattle.login_desk.specs.Asks.{verb_ask}
 use Rattle.login_desk.specs.Numbers.{number}
 use Rattle.login_desk.specs.Pairs.{pairs_of}
@@ -36,45 +36,45 @@ abbrev pub IsLine : List ℕ → Type 0
 IsLine line = AllByRecursion (λ b. b ≢ 10) line
 
 -- a line and its newline
-abbrev pub ended : List ℕ → List ℕ
-ended line = line ++ 10 ∷ []
+abbrev pub with_newline : List ℕ → List ℕ
+with_newline line = line ++ 10 ∷ []
 
 -- lines, each with its newline
-abbrev pub joined : List (List ℕ) → List ℕ
-joined lines = flat_map ended lines
+abbrev pub unlines : List (List ℕ) → List ℕ
+unlines lines = flat_map with_newline lines
 
 -- ---- what a line asks
 
--- an empty line, or a comment
-abbrev pub is_passed : List ℕ → Bool
-is_passed [] = true
-is_passed (b ∷ bytes) = b == 35
+-- an empty line or a comment, which asks nothing
+abbrev pub is_skipped : List ℕ → Bool
+is_skipped [] = true
+is_skipped (b ∷ bytes) = b == 35
 
--- the ten words of a draw number
-abbrev pub words_from : ℕ → Words
-words_from s = record { 0 = s ∷ (s + 1) % 2 ^ 64 ∷ (s + 2) % 2 ^ 64 ∷ (s + 3) % 2 ^ 64 ∷ (s + 4) % 2 ^ 64 ∷ (s + 5) % 2 ^ 64 ∷ (s + 6) % 2 ^ 64 ∷ (s + 7) % 2 ^ 64 ∷ (s + 8) % 2 ^ 64 ∷ (s + 9) % 2 ^ 64 ∷ [] }
+-- the ten draws of a draw number
+abbrev pub draws_from : ℕ → Draws
+draws_from s = record { 0 = s ∷ (s + 1) % 2 ^ 64 ∷ (s + 2) % 2 ^ 64 ∷ (s + 3) % 2 ^ 64 ∷ (s + 4) % 2 ^ 64 ∷ (s + 5) % 2 ^ 64 ∷ (s + 6) % 2 ^ 64 ∷ (s + 7) % 2 ^ 64 ∷ (s + 8) % 2 ^ 64 ∷ (s + 9) % 2 ^ 64 ∷ [] }
 
 -- a line without a readable head: with the moment 0 its entry has the last used moment
-abbrev pub bad_head : Asked
-bad_head = record { moment = 0; words = words_from 0; ask = asks.Bad (codes "head") }
+abbrev pub bad_head : LineAsk
+bad_head = record { moment = 0; draws = draws_from 0; ask = asks.Bad (codes "head") }
 
 -- a moment and a draw number, where both are readable, and what comes after them
-abbrev pub headed : Option ℕ → Option ℕ → List ℕ × List ℕ → Asked
-headed None draw rest = bad_head
-headed (Some moment) None rest = bad_head
-headed (Some moment) (Some draw) rest = record { moment = moment; words = words_from draw; ask = verb_ask rest.0 (pairs_of rest.1) }
+abbrev pub with_head : Option ℕ → Option ℕ → List ℕ × List ℕ → LineAsk
+with_head None draw rest = bad_head
+with_head (Some moment) None rest = bad_head
+with_head (Some moment) (Some draw) rest = record { moment = moment; draws = draws_from draw; ask = verb_ask rest.0 (pairs_of rest.1) }
 
 -- `<moment> <draw> <verb> <pairs>` with single spaces: the moment is below 2^53, and the draw number below 2^64
-unfoldable pub parts_asked : List ℕ → Asked
-parts_asked line =
+unfoldable pub parts_ask : List ℕ → LineAsk
+parts_ask line =
     let moment = split_once 32 line in
     let draw = split_once 32 moment.1 in
-    headed (number (2 ^ 53 - 1) moment.0) (number (2 ^ 64 - 1) draw.0) (split_once 32 draw.1)
+    with_head (number (2 ^ 53 - 1) moment.0) (number (2 ^ 64 - 1) draw.0) (split_once 32 draw.1)
 
 -- the most bytes of a line, without its newline
 abbrev pub line_limit : ℕ
 line_limit = 131072
 
 -- what a line asks; one over the limit has no readable head
-unfoldable pub asked_of : List ℕ → Asked
-asked_of line = if nat_lt line_limit (length line) then bad_head else parts_asked line
+unfoldable pub line_ask : List ℕ → LineAsk
+line_ask line = if nat_lt line_limit (length line) then bad_head else parts_ask line

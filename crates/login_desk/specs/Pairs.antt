@@ -6,11 +6,11 @@ use Rattle.std.specs.Str.Lossy.{utf8_lossy}
 use Rattle.form_urlencoded.specs.Form.{raw_pairs, decode}
 use Rattle.login_desk.specs.declared.pairs.Pair.{Pair}
 
-abbrev pub decoded : List ℕ × List ℕ → Pair
-decoded pair = record { name = utf8_lossy (decode pair.0); value = utf8_lossy (decode pair.1) }
+abbrev pub pair_from : List ℕ × List ℕ → Pair
+pair_from pair = record { name = utf8_lossy (decode pair.0); value = utf8_lossy (decode pair.1) }
 
 abbrev pub pairs_of : List ℕ → List Pair
-pairs_of text = map decoded (raw_pairs text)
+pairs_of text = map pair_from (raw_pairs text)
 
 abbrev pub is_named : List ℕ → Pair → Bool
 is_named name pair = bytes_eq pair.name name

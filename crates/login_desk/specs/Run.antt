@@ -1,30 +1,18 @@
--- What the program writes, and the cause of each status.
-use Rattle.std.specs.Prelude.{◌≡◌, ◌⊎◌, ◌==◌, ◌||◌, ℕ, ◌^◌, ◌<◌, Bool, true, false, List, [], ◌∷◌, ◌++◌, Option, Some, None, length, codes}
-use Rattle.std.specs.Str.{bytes_eq}
-use Rattle.login_base.specs.Outside.{before_known, after_known, Rose}
+-- What a run of the program means, by its command and its status.
+use Rattle.std.specs.Prelude.{◌≡◌, ◌⊎◌, ◌==◌, ◌||◌, ℕ, ◌^◌, ◌<◌, Bool, List, [], ◌∷◌, ◌++◌, Option, Some, None, length, codes}
+use Rattle.facts.specs.declared.fact.Fact.{Fact}
+use Rattle.login_base.specs.Outside.{after_known}
+use Rattle.login_desk.specs.declared.command.Command.{Command}
+use Rattle.login_desk.specs.declared.command.Command.TheVariants as commands
 use Rattle.login_desk.specs.declared.status.Outcome.{Outcome}
 use Rattle.login_desk.specs.declared.status.Outcome.TheVariants as outcomes
-use Rattle.login_desk.specs.Lines.{lines, whole_lines}
-use Rattle.login_desk.specs.Outcome.{IsAnswered, IsStopped, IsOverlong, IsStarved}
-use Rattle.login_desk.specs.Play.{play_text}
+use Rattle.login_desk.specs.Outcome.{IsAnswered, IsStopped, IsOverlong, IsStarved, IsCutOff, read_line, script_line}
+use Rattle.login_desk.specs.Outside.{OutsideState, IsUnread}
+use Rattle.login_desk.specs.Play.{first_base}
 use Rattle.login_desk.specs.Turn.{WritesFront}
-
--- the words of the one command, which has no options yet
-abbrev pub is_replay : List (List ℕ) → Bool
-is_replay [] = false
-is_replay (word ∷ []) = bytes_eq word (codes "replay")
-is_replay (word ∷ other ∷ words) = false
-
--- ---- error lines
 
 abbrev pub usage_line : List ℕ
 usage_line = codes "error 2 usage" ++ 10 ∷ []
-
-abbrev pub read_line : List ℕ
-read_line = codes "error 4 read" ++ 10 ∷ []
-
-abbrev pub script_line : List ℕ
-script_line = codes "error 9 script" ++ 10 ∷ []
 
 -- ---- statuses
 
@@ -37,30 +25,30 @@ abbrev pub IsShort : Option (List ℕ) → Type 0
 IsShort None = ⊥
 IsShort (Some bytes) = length bytes < 2 ^ 32
 
--- what is due to be written in a run that ends in a write that fails
-pub data IsDue (words : List (List ℕ)) (script left : Option (List ℕ)) (faults now : ℕ) (due : List ℕ) : Type 0 where
-  -- the line on the usage, and nothing else
-  Usage : is_replay words ≡ false → due ≡ usage_line → IsDue words script left faults now due
-  -- the text of the play of the first lines
-  Replies : is_replay words ≡ true → (bytes : List ℕ) (later : Option (List ℕ)) → script ≡ before_known bytes later → due ≡ play_text (lines bytes) → IsDue words script left faults now due
-  -- that of the whole lines before a fault, and the line on the fault
-  Fault : is_replay words ≡ true → Rose faults now → (bytes : List ℕ) → script ≡ before_known bytes left → due ≡ play_text (whole_lines bytes) ++ read_line → IsDue words script left faults now due
-  -- that of the whole lines in 2^32 bytes, and the line on their number
-  Overlong : is_replay words ≡ true → (bytes : List ℕ) (later : Option (List ℕ)) → script ≡ before_known bytes later → length bytes ≡ 2 ^ 32 → due ≡ play_text (whole_lines bytes) ++ script_line → IsDue words script left faults now due
+-- ---- commands
+
+-- without a command the line on the usage is written, or a front of it
+pub data UsageMeans {S : Type 0} (old new : OutsideState S) (status : ℕ) : Type 0 where
+  Told : status ≡ 2 → IsUnread old new → new.written ≡ after_known old.written usage_line → UsageMeans old new status
+  Cut : status ≡ 5 → IsUnread old new → WritesFront old.written new.written usage_line → UsageMeans old new status
+
+-- a replay over a base
+pub data ReplayMeans {S : Type 0} (base : List Fact) (old new : OutsideState S) (status : ℕ) : Type 0 where
+  Answered : status ≡ 0 → IsAnswered base old new → ReplayMeans base old new status
+  Stopped : status ≡ 4 → IsStopped base old new read_line → ReplayMeans base old new status
+  CutOff : status ≡ 5 → IsCutOff base old new → ReplayMeans base old new status
+  Starved : status ≡ 7 → IsStarved base old new → ReplayMeans base old new status
+  Overlong : status ≡ 9 → IsOverlong base old new script_line → ReplayMeans base old new status
+
+-- what a run of this command does to the outside, where it ends with this status
+abbrev pub RunMeans : {S : Type 0} → Option Command → OutsideState S → OutsideState S → ℕ → Type 0
+RunMeans None old new status = UsageMeans old new status
+RunMeans (Some commands.Replay) old new status = ReplayMeans first_base old new status
 
 -- a front of what was due was written
-pub record IsCutOff (words : List (List ℕ)) (script left before after : Option (List ℕ)) (faults now : ℕ) : Type 0 where
-  pub due : List ℕ
-  pub is_due : IsDue words script left faults now due
-  pub front : WritesFront before after due
-
-abbrev pub RunEnds : List (List ℕ) → Option (List ℕ) → Option (List ℕ) → Option (List ℕ) → Option (List ℕ) → ℕ → ℕ → Outcome → Type 0
-RunEnds words script left before after faults now outcomes.Done = (is_replay words ≡ true) × IsAnswered script left before after
-RunEnds words script left before after faults now outcomes.Usage = (is_replay words ≡ false) × (after ≡ after_known before usage_line)
-RunEnds words script left before after faults now outcomes.ReadFailed = (is_replay words ≡ true) × IsStopped script left before after read_line × Rose faults now
-RunEnds words script left before after faults now outcomes.PutFailed = IsCutOff words script left before after faults now
-RunEnds words script left before after faults now outcomes.Memory = (is_replay words ≡ true) × IsStarved script before after
-RunEnds words script left before after faults now outcomes.TooLong = (is_replay words ≡ true) × IsOverlong script before after script_line
+abbrev pub IsPutFailed : {S : Type 0} → Option Command → OutsideState S → OutsideState S → Type 0
+IsPutFailed None old new = WritesFront old.written new.written usage_line
+IsPutFailed (Some commands.Replay) old new = IsCutOff first_base old new
 
 -- the line was written, or a front of it
 abbrev pub LineEnds : Option (List ℕ) → Option (List ℕ) → List ℕ → Outcome → Outcome → Type 0

@@ -3,12 +3,12 @@ ghost use Rattle.std.specs.Option.{option_copied};
 ghost use Rattle.login_desk.specs.Asks.{absent, is_app, open_form, open_ask, user_name, user_setup, added_user, user_add_ask, page, verb_ask};
 ghost use Rattle.login_desk.specs.Pairs.{value_of};
 
-use crate::credentials::{copied, optional_password, user_name};
+use crate::credentials::{copy_of, optional_password, user_name};
 use crate::pairs::{Pair, has, value_of};
-use crate::place::{Place, asked, bad};
+use crate::place::{Place, ask_or_bad, bad};
 use crate::post::post_ask;
-use crate::posted_to::{id_given, root_given};
-use facts::{Access, AdminVerb, Ask};
+use crate::post_target::{id_given, root_given};
+use facts::{Access, AdminVerb, Ask, NewTab, NewUser};
 use login_base::{Memory, Name, Sequence, TabKey};
 use std::alloc::Global;
 
@@ -46,11 +46,11 @@ fn open_ask(alloc: Global, pairs: &[Pair]) -> Result<Ask, Memory>
     ensures ask { IfOk result (λ ask. ask ≡ open_ask (open_form pairs.now)) }
 {
     match open_form(pairs) {
-        Ok(()) => Ok(Ask::NewTab {
+        Ok(()) => Ok(Ask::NewTab(NewTab {
             root: None,
             client: Name::known(alloc, b"app")?,
             acr: None,
-        }),
+        })),
         Err(place) => bad(alloc, place),
     }
 }
@@ -67,18 +67,19 @@ fn user_setup(pairs: &[Pair]) -> Result<(), Place>
 }
 
 fn added_user(alloc: Global, pairs: &[Pair], name: Name) -> Result<Ask, Memory>
-    ensures ask { IfOk result (λ ask. ask ≡ added_user name (value_of (codes "password") pairs.now) (user_setup pairs.now)) }
+    ensures ask { IfOk result (λ ask. ask ≡
+        added_user name (value_of (codes "password") pairs.now) (user_setup pairs.now)) }
 {
     match user_setup(pairs) {
         Ok(()) => Ok(Ask::Admin {
             access: Access::Local,
-            verb: AdminVerb::UserAdd {
+            verb: AdminVerb::UserAdd(NewUser {
                 name,
-                password: copied(alloc, value_of(pairs, b"password"))?,
+                password: copy_of(alloc, value_of(pairs, b"password"))?,
                 otp: None,
                 roles: Sequence::new(alloc),
                 actions: Sequence::new(alloc),
-            },
+            }),
         }),
         Err(place) => bad(alloc, place),
     }
@@ -93,7 +94,6 @@ fn user_add_ask(alloc: Global, pairs: &[Pair]) -> Result<Ask, Memory>
     }
 }
 
-/// The page of a tab.
 #[tactic(auto, unfolding(crate::specs::Asks::page))]
 fn page(pairs: &[Pair]) -> Result<Ask, Place>
     ensures { result ≡ page pairs.now }
@@ -118,7 +118,7 @@ pub fn verb_ask(alloc: Global, verb: &[u8], pairs: &[Pair]) -> Result<Ask, Memor
         return user_add_ask(alloc, pairs);
     }
     if verb == b"page".as_slice() {
-        return asked(alloc, page(pairs));
+        return ask_or_bad(alloc, page(pairs));
     }
     if verb == b"post".as_slice() {
         return post_ask(alloc, pairs);

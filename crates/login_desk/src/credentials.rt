@@ -63,7 +63,7 @@ pub fn password_text(alloc: Global, value: Option<&[u8]>) -> Result<Option<Seque
     ensures password { IfOk result (λ password. password ≡ password_text (option_copied value.entry)) }
 {
     match value {
-        Some(value) if is_password(value) => copied(alloc, Some(value)),
+        Some(value) if is_password(value) => copy_of(alloc, Some(value)),
         _ => Ok(None),
     }
 }
@@ -90,7 +90,7 @@ pub fn optional_password(pairs: &[Pair]) -> Result<(), Place>
 }
 
 /// A copy of a value, where it is there.
-pub fn copied(alloc: Global, value: Option<&[u8]>) -> Result<Option<Sequence<u8>>, Memory>
+pub fn copy_of(alloc: Global, value: Option<&[u8]>) -> Result<Option<Sequence<u8>>, Memory>
     ensures ok { IfOk result (λ copy. copy ≡ option_copied value.entry) }
 {
     match value {

@@ -3,18 +3,46 @@ ghost use Rattle.std.specs.Prelude.{◌≡◌, ◌<◌, true, OnOk};
 ghost use Rattle.facts.specs.Realms.{has_realm};
 ghost use Rattle.login_hall.specs.HallState.{facts_of};
 
-use crate::lines::is_passed;
-use crate::tests::{replay_each, spelled};
+use crate::lines::is_skipped;
+use crate::number::number;
 use crate::turn::enter_line;
 use facts::Realm;
 use flow_tree::{Body, Exec, Kind, Requirement, Tree};
-use login_base::{Duplicate, Steps, read_name};
+use login_base::{Duplicate, Id, Steps, id_text, read_name};
 use login_hall::Hall;
 use sqlite_items::Items;
 use std::alloc::Global;
 use std::marker::Brand;
 use std::sync::ledger::{Blank, Ledger};
 use std::test::Fail;
+
+/// The id of a serial and two draws that follow each other, from `serial/word`.
+fn id_of(text: &str) -> Option<Id> {
+    let (serial, word) = text.split_once('/')?;
+    let serial = number(serial.as_bytes(), u64::MAX)?;
+    let word = number(word.as_bytes(), u64::MAX - 1)?;
+    Some(Id {
+        serial,
+        high: word,
+        low: word + 1,
+    })
+}
+
+/// The text with each `[serial/word]` spelled as the id that it stands for.
+fn spelled(alloc: Global, text: &str) -> Result<Vec<u8>, Fail> {
+    let mut bytes = Vec::new(alloc);
+    for (i, part) in text.split('[').enumerate() {
+        if i == 0 {
+            bytes.extend_from_slice(part.as_bytes())?;
+            continue;
+        }
+        let (id, rest) = part.split_once(']').ok_or("no end of an id")?;
+        let id = id_of(id).ok_or("no id")?;
+        bytes.extend_from_slice(&id_text(&id))?;
+        bytes.extend_from_slice(rest.as_bytes())?;
+    }
+    Ok(bytes)
+}
 
 /// An execution of a flow: an authenticator, or a subflow of authenticators.
 type Step = (&'static str, Requirement, Piece);
@@ -102,7 +130,7 @@ fn add_answer<L: Ledger>(
     requires realm { has_realm (facts_of hall.old) ≡ true }
     ensures realm { OnOk result (has_realm (facts_of hall.new) ≡ true) }
 {
-    if is_passed(line) || !hall.has_serials() {
+    if is_skipped(line) || !hall.has_serials() {
         return Err("nothing is asked".into());
     }
     let told = enter_line(alloc, hall, line, steps)?;
@@ -145,7 +173,7 @@ fn answers<L: Ledger>(
 }
 
 /// What the hall of a realm answers to a script, on a ledger of its own.
-fn answered(alloc: Global, realm: Realm, script: &str) -> Result<Vec<u8>, Fail> {
+fn answers_to(alloc: Global, realm: Realm, script: &str) -> Result<Vec<u8>, Fail> {
     let lines = lines_of(alloc, script)?;
     answers::<Brand>(alloc, realm, lines.as_slice(), Blank::new(1))
 }
@@ -331,91 +359,8 @@ fn each_flow_is_played_step_by_step(rt: HostRuntime) -> Result<(), Fail> {
     for (steps, script, text) in FLOWS {
         let realm = realm_of(rt.alloc(), steps)?;
         let text = spelled(rt.alloc(), text)?;
-        let answers = answered(rt.alloc(), realm, script)?;
+        let answers = answers_to(rt.alloc(), realm, script)?;
         assert_eq!(rt; answers.as_slice(), text.as_slice(), "{script}");
     }
     Ok(())
-}
-
-/// Scripts where a code is replaced, and what the program writes. `[serial/word]` is an id.
-const REPLACED_CODES: [(&str, &str); 2] = [
-    // A page gives a new code, and the old one is stale.
-    (
-        "1000 100 user-add name=ann&password=pw1
-2000 200 open client=app
-2500 250 page root=[1/200]&tab=[2/202]
-3000 300 post root=[1/200]&tab=[2/202]&code=[3/204]&execution=form&name=ann&password=pw1
-3500 350 post root=[1/200]&tab=[2/202]&code=[4/254]&execution=form&name=ann&password=pw1",
-        "told user name=ann id=1
-root=[1/200] tab=[2/202] form code=[3/204] asked=form:form
-form code=[4/254] asked=form:form
-refused 9 Stale current=[4/254]
-done session=[3/356] user=ann level=0
-",
-    ),
-    // A wrong password that comes again is stale, and isn't a second failure.
-    (
-        "1000 100 user-add name=ann&password=pw1
-2000 200 open client=app
-3000 300 post root=[1/200]&tab=[2/202]&code=[3/204]&execution=form&name=ann&password=bad
-4000 400 post root=[1/200]&tab=[2/202]&code=[3/204]&execution=form&name=ann&password=bad
-5000 500 post root=[1/200]&tab=[2/202]&code=[4/304]&execution=form&name=zed&password=pw1
-6000 600 page root=[1/200]&tab=[9/0]",
-        "told user name=ann id=1
-root=[1/200] tab=[2/202] form code=[3/204] asked=form:form
-refused 16 BadCredentials form code=[4/304] asked=form:form
-refused 9 Stale current=[4/304]
-refused 16 BadCredentials form code=[5/504] asked=form:form
-refused 7 UnknownTab
-",
-    ),
-];
-
-#[test]
-fn a_replaced_code_is_stale(rt: HostRuntime) -> Result<(), Fail> {
-    replay_each(&rt, rt.alloc(), &REPLACED_CODES)
-}
-
-/// A script where several refusals hold at once, and what the program writes: the first of Stale,
-/// OtherUser, Finished, NotAsked, BadCredentials. `[serial/word]` is an id.
-const FIRST_REFUSALS: [(&str, &str); 1] = [
-    // The session ends its idle time at 1,803,200.
-    (
-        "1000 100 user-add name=ann&password=pw1
-1500 150 user-add name=bob&password=pw2
-2000 200 open client=app
-2500 250 page root=[1/200]&tab=[2/202]
-3000 300 post root=[1/200]&tab=[2/202]&code=[3/204]&execution=zzz&name=ann&password=bad
-3100 310 post root=[1/200]&tab=[2/202]&code=[4/254]&execution=zzz&name=ann&password=bad
-3150 315 post root=[1/200]&tab=[2/202]&code=[4/254]&execution=form&password=pw1
-3200 320 post root=[1/200]&tab=[2/202]&code=[4/254]&execution=form&name=ann&password=pw1
-4000 400 post root=[1/200]&tab=[2/202]&code=[3/204]&execution=form&name=bob&password=pw2
-4100 410 post root=[1/200]&tab=[2/202]&code=[4/254]&execution=form&name=bob&password=pw2
-4200 420 post root=[1/200]&tab=[2/202]&code=[4/254]&execution=zzz&name=ann&password=pw1
-4300 430 page root=[1/200]&tab=[2/202]
-4400 440 post root=[1/200]&tab=[2/202]&code=[4/254]&execution=form&name=zed&password=pw1
-1803199 490 post root=[1/200]&tab=[2/202]&code=[4/254]&execution=form&name=bob&password=pw2
-1803200 500 post root=[1/200]&tab=[2/202]&code=[4/254]&execution=form&name=bob&password=pw2",
-        "told user name=ann id=1
-told user name=bob id=3
-root=[1/200] tab=[2/202] form code=[3/204] asked=form:form
-form code=[4/254] asked=form:form
-refused 9 Stale current=[4/254]
-refused 12 NotAsked
-refused 12 NotAsked
-done session=[5/326] user=ann level=0
-refused 9 Stale current=[4/254]
-refused 10 OtherUser tab=bob session=ann
-refused 11 Finished
-refused 11 Finished
-refused 11 Finished
-refused 10 OtherUser tab=bob session=ann
-refused 11 Finished
-",
-    ),
-];
-
-#[test]
-fn the_first_refusal_stands(rt: HostRuntime) -> Result<(), Fail> {
-    replay_each(&rt, rt.alloc(), &FIRST_REFUSALS)
 }

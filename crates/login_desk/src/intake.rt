@@ -29,7 +29,8 @@ impl Model for Intake {
 
     ghost view = { λ i. record { pending = drop i.from (take i.to i.buffer.items); taken = i.taken } };
 
-    ghost invariant = { λ i. (i.from ≤ i.to) × (i.to ≤ vec_len i.buffer) × (0 < vec_len i.buffer) × (i.taken ≤ 2 ^ 32) };
+    ghost invariant = { λ i. (i.from ≤ i.to) × (i.to ≤ vec_len i.buffer) × (0 < vec_len i.buffer) ×
+        (i.taken ≤ 2 ^ 32) };
 }
 
 /// The next byte.

@@ -1,13 +1,13 @@
 ghost use Rattle.std.specs.Prelude.{◌≡◌, IfOk};
 ghost use Rattle.form_urlencoded.specs.Form.{split_once};
-ghost use Rattle.login_desk.specs.Lines.{asked_of, parts_asked, is_passed, words_from, bad_head};
+ghost use Rattle.login_desk.specs.Lines.{line_ask, parts_ask, is_skipped, draws_from, bad_head};
 
 use crate::asks::verb_ask;
 use crate::number::number;
 use crate::pairs::pairs_of;
 use crate::place::{Place, bad};
 use facts::Ask;
-use login_base::{Memory, Words};
+use login_base::{Draws, Memory};
 use std::alloc::Global;
 
 /// The most bytes of a line that asks something, without its newline.
@@ -18,18 +18,18 @@ const LAST_MOMENT: u64 = (1 << 53) - 1;
 
 /// What a line asks.
 #[derive(Debug, Drop)]
-pub struct Asked {
+pub struct LineAsk {
     /// In milliseconds, below 2^53.
     pub moment: u64,
-    pub words: Words,
+    pub draws: Draws,
     pub ask: Ask,
 }
 
-/// The ten words of a draw number: the number and those that follow it, modulo 2^64.
-fn words_from(draw: u64) -> Words
-    ensures { result ≡ words_from draw }
+/// The ten draws of a draw number: the number and those that follow it, modulo 2^64.
+fn draws_from(draw: u64) -> Draws
+    ensures { result ≡ draws_from draw }
 {
-    Words([
+    Draws([
         draw,
         draw.wrapping_add(1),
         draw.wrapping_add(2),
@@ -43,9 +43,9 @@ fn words_from(draw: u64) -> Words
     ])
 }
 
-/// Whether a line is passed over: it is empty, or a comment.
-pub fn is_passed(line: &[u8]) -> bool
-    ensures value { result ≡ is_passed line.now }
+/// Whether a line asks nothing: it is empty, or a comment.
+pub fn is_skipped(line: &[u8]) -> bool
+    ensures value { result ≡ is_skipped line.now }
 {
     match line {
         [] => true,
@@ -65,21 +65,21 @@ fn split_space(text: &[u8]) -> (&[u8], &[u8])
 }
 
 /// What a line without a readable head asks.
-fn bad_head(alloc: Global) -> Result<Asked, Memory>
-    ensures asked { IfOk result (λ asked. asked ≡ bad_head) }
+fn bad_head(alloc: Global) -> Result<LineAsk, Memory>
+    ensures ask { IfOk result (λ ask. ask ≡ bad_head) }
 {
     let ask = bad(alloc, Place::Head)?;
-    Ok(Asked {
+    Ok(LineAsk {
         moment: 0,
-        words: words_from(0),
+        draws: draws_from(0),
         ask,
     })
 }
 
-/// What a line asks by its parts.
-#[tactic(auto, unfolding(crate::specs::Lines::parts_asked))]
-fn parts_asked(alloc: Global, line: &[u8]) -> Result<Asked, Memory>
-    ensures asked { IfOk result (λ asked. asked ≡ parts_asked line.now) }
+/// What a line within the limit asks.
+#[tactic(auto, unfolding(crate::specs::Lines::parts_ask))]
+fn parts_ask(alloc: Global, line: &[u8]) -> Result<LineAsk, Memory>
+    ensures ask { IfOk result (λ ask. ask ≡ parts_ask line.now) }
 {
     let (moment, rest) = split_space(line);
     let (draw, rest) = split_space(rest);
@@ -88,9 +88,9 @@ fn parts_asked(alloc: Global, line: &[u8]) -> Result<Asked, Memory>
         (Some(moment), Some(draw)) => {
             let pairs = pairs_of(alloc, pairs)?;
             let ask = verb_ask(alloc, verb, pairs.as_slice())?;
-            Ok(Asked {
+            Ok(LineAsk {
                 moment,
-                words: words_from(draw),
+                draws: draws_from(draw),
                 ask,
             })
         }
@@ -99,12 +99,12 @@ fn parts_asked(alloc: Global, line: &[u8]) -> Result<Asked, Memory>
 }
 
 /// What a line asks.
-#[tactic(auto, unfolding(crate::specs::Lines::asked_of))]
-pub fn asked_of(alloc: Global, line: &[u8]) -> Result<Asked, Memory>
-    ensures asked { IfOk result (λ asked. asked ≡ asked_of line.now) }
+#[tactic(auto, unfolding(crate::specs::Lines::line_ask))]
+pub fn line_ask(alloc: Global, line: &[u8]) -> Result<LineAsk, Memory>
+    ensures ask { IfOk result (λ ask. ask ≡ line_ask line.now) }
 {
     if line.len() > LINE_LIMIT {
         return bad_head(alloc);
     }
-    parts_asked(alloc, line)
+    parts_ask(alloc, line)
 }

@@ -3,7 +3,7 @@ ghost use Rattle.std.specs.List.{list_any};
 ghost use Rattle.std.specs.Option.{option_copied};
 ghost use Rattle.std.specs.Str.Lossy.{utf8_lossy};
 ghost use Rattle.form_urlencoded.specs.Form.{decode};
-ghost use Rattle.login_desk.specs.Pairs.{decoded, pairs_of, is_named, has, value_of};
+ghost use Rattle.login_desk.specs.Pairs.{pair_from, pairs_of, is_named, has, value_of};
 
 use login_base::{Memory, Sequence};
 use std::alloc::Global;
@@ -17,7 +17,7 @@ pub struct Pair {
 
 /// The text that stands in a form. What isn't UTF-8 is read as U+FFFD, which no value may have: it
 /// is no byte of a name.
-fn decoded(alloc: Global, text: &[u8]) -> Result<Sequence<u8>, Memory>
+fn decode_text(alloc: Global, text: &[u8]) -> Result<Sequence<u8>, Memory>
     ensures { IfOk result (λ bytes. bytes ≡ utf8_lossy (decode text.now)) }
 {
     let text = form_urlencoded::decode(alloc, text)?;
@@ -25,11 +25,11 @@ fn decoded(alloc: Global, text: &[u8]) -> Result<Sequence<u8>, Memory>
     Ok(Sequence::from_vec(bytes))
 }
 
-fn decoded_pair(alloc: Global, name: &[u8], value: &[u8]) -> Result<Pair, Memory>
-    ensures { IfOk result (λ pair. pair ≡ decoded (name.now, value.now)) }
+fn pair_from(alloc: Global, name: &[u8], value: &[u8]) -> Result<Pair, Memory>
+    ensures { IfOk result (λ pair. pair ≡ pair_from (name.now, value.now)) }
 {
-    let name = decoded(alloc, name)?;
-    let value = decoded(alloc, value)?;
+    let name = decode_text(alloc, name)?;
+    let value = decode_text(alloc, value)?;
     Ok(Pair { name, value })
 }
 
@@ -39,7 +39,7 @@ pub fn pairs_of(alloc: Global, text: &[u8]) -> Result<Vec<Pair>, Memory>
 {
     let mut pairs = Vec::new(alloc);
     for (name, value) in form_urlencoded::raw_pairs(text) {
-        pairs.push(decoded_pair(alloc, name, value)?)?;
+        pairs.push(pair_from(alloc, name, value)?)?;
     }
     Ok(pairs)
 }

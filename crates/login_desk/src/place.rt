@@ -1,7 +1,7 @@
 ghost use Rattle.std.specs.Prelude.{◌≡◌, IfOk, IsTrue};
 ghost use Rattle.facts.specs.declared.ask.Ask.TheVariants as asks;
 ghost use Rattle.login_base.specs.Names.{is_name};
-ghost use Rattle.login_desk.specs.Asks.{asked};
+ghost use Rattle.login_desk.specs.Asks.{ask_or_bad};
 ghost use Rattle.login_desk.specs.Places.{place_text};
 
 use facts::Ask;
@@ -52,7 +52,6 @@ impl Place {
     }
 }
 
-/// A malformed ask.
 pub fn bad(alloc: Global, place: Place) -> Result<Ask, Memory>
     ensures ask { IfOk result (λ ask. ask ≡ asks.Bad (place_text place)) }
 {
@@ -61,8 +60,8 @@ pub fn bad(alloc: Global, place: Place) -> Result<Ask, Memory>
 }
 
 /// The ask that was read, or a malformed one.
-pub fn asked(alloc: Global, read: Result<Ask, Place>) -> Result<Ask, Memory>
-    ensures ask { IfOk result (λ ask. ask ≡ asked read) }
+pub fn ask_or_bad(alloc: Global, read: Result<Ask, Place>) -> Result<Ask, Memory>
+    ensures ask { IfOk result (λ ask. ask ≡ ask_or_bad read) }
 {
     match read {
         Ok(ask) => Ok(ask),

@@ -1,15 +1,17 @@
-ghost use Rattle.std.specs.Prelude.{◌≡◌, ◌<◌, ◌≤◌, ◌+◌, ◌^◌, [], IfOk};
+ghost use Rattle.std.specs.Prelude.{◌≡◌, ◌<◌, ◌≤◌, ◌+◌, ◌^◌, [], true, IfOk};
+ghost use Rattle.facts.specs.Realms.{has_realm};
+ghost use Rattle.hall_answers.specs.HasSerials.{HasSerials};
 ghost use Rattle.login_base.specs.Outside.{Rose, counted};
 ghost use Rattle.login_desk.specs.Outcome.{PlayEnds, end_of};
 ghost use Rattle.login_desk.specs.Play.{first_base};
 
 use crate::intake::{Intake, Next, SCRIPT_LIMIT};
+use crate::outside::Outside;
 use crate::turn::{Turn, answer_line};
 use login_base::{Memory, Sink, Source, Steps};
 use login_hall::Hall;
 use std::alloc::Global;
-use std::marker::Brand;
-use std::sync::ledger::{Blank, Ledger};
+use std::sync::ledger::Ledger;
 
 /// So many bytes are read at once.
 const BUFFER: usize = 65_536;
@@ -40,30 +42,29 @@ fn play_lines<L: Ledger, S: Source, W: Sink>(
     alloc: Global,
     hall: &mut Hall,
     intake: &mut Intake,
-    script: &mut S,
-    sink: &mut W,
+    outside: &mut Outside<S, W>,
     steps: &mut Steps<L>,
 ) -> End
-    requires base { hall.old.base ≡ first_base }
     requires journal { hall.old.journal ≡ [] }
+    requires realm { has_realm hall.old.base ≡ true }
+    requires serials { HasSerials hall.old.base (2 ^ 62) }
     requires pending { intake.old.pending ≡ [] }
     requires taken { intake.old.taken ≡ 0 }
-    ensures play { PlayEnds (S.left script.old) (S.left script.new) (W.written sink.old) (W.written sink.new) result }
-    ensures end { result ≡ End.Done → S.ends script.new ≡ counted (S.ends script.old) }
-    ensures read_cause { result ≡ End.ReadFailed → Rose (S.faults script.old) (S.faults script.new) }
-    ensures put_cause { result ≡ End.PutFailed → Rose (W.faults sink.old) (W.faults sink.new) }
-    ensures reads { S.faults script.old ≤ S.faults script.new }
-    ensures puts { W.faults sink.old ≤ W.faults sink.new }
+    ensures play { PlayEnds hall.old.base outside.old outside.new result }
+    ensures end { result ≡ End.Done → outside.new.ends ≡ counted outside.old.ends }
+    ensures read_cause { result ≡ End.ReadFailed → Rose outside.old.read_faults outside.new.read_faults }
+    ensures put_cause { result ≡ End.PutFailed → Rose outside.old.write_faults outside.new.write_faults }
+    ensures puts { outside.old.write_faults ≤ outside.new.write_faults }
 {
     for _ in 0..SCRIPT_LIMIT + 1 {
-        match intake.next_line(alloc, script) {
-            Next::Line(line) => match answer_line(alloc, hall, line.as_slice(), sink, steps) {
+        match outside.next_line(alloc, intake) {
+            Next::Line(line) => match answer_line(alloc, hall, line.as_slice(), outside, steps) {
                 Turn::Told => {}
                 Turn::Failed => return End::PutFailed,
                 Turn::Memory => return End::Memory,
             },
             Next::Last(line) => {
-                return end_of(answer_line(alloc, hall, line.as_slice(), sink, steps));
+                return end_of(answer_line(alloc, hall, line.as_slice(), outside, steps));
             }
             Next::End => return End::Done,
             Next::Failed => return End::ReadFailed,
@@ -75,7 +76,7 @@ fn play_lines<L: Ledger, S: Source, W: Sink>(
 }
 
 /// A new hall, which has started with the built-in realm.
-fn started_hall(alloc: Global) -> Result<Hall, Memory>
+fn start_hall(alloc: Global) -> Result<Hall, Memory>
     ensures base { IfOk result (λ hall. hall.base ≡ first_base) }
     ensures journal { IfOk result (λ hall. hall.journal ≡ []) }
 {
@@ -85,41 +86,23 @@ fn started_hall(alloc: Global) -> Result<Hall, Memory>
     Ok(hall)
 }
 
-/// Plays a script over a new hall, with a counter of steps on this ledger.
-fn play_counted<L: Ledger, S: Source, W: Sink>(
+/// Plays a script over a new hall.
+pub fn play_script<L: Ledger, S: Source, W: Sink>(
     alloc: Global,
-    blank: Blank,
-    script: &mut S,
-    sink: &mut W,
+    outside: &mut Outside<S, W>,
+    steps: &mut Steps<L>,
 ) -> End
-    requires name { blank.name ≡ L.name }
-    requires parts { blank.parts ≡ L.parts }
-    requires some { 0 < blank.parts }
-    ensures play { PlayEnds (S.left script.old) (S.left script.new) (W.written sink.old) (W.written sink.new) result }
-    ensures end { result ≡ End.Done → S.ends script.new ≡ counted (S.ends script.old) }
-    ensures read_cause { result ≡ End.ReadFailed → Rose (S.faults script.old) (S.faults script.new) }
-    ensures put_cause { result ≡ End.PutFailed → Rose (W.faults sink.old) (W.faults sink.new) }
-    ensures reads { S.faults script.old ≤ S.faults script.new }
-    ensures puts { W.faults sink.old ≤ W.faults sink.new }
+    ensures play { PlayEnds first_base outside.old outside.new result }
+    ensures end { result ≡ End.Done → outside.new.ends ≡ counted outside.old.ends }
+    ensures read_cause { result ≡ End.ReadFailed → Rose outside.old.read_faults outside.new.read_faults }
+    ensures put_cause { result ≡ End.PutFailed → Rose outside.old.write_faults outside.new.write_faults }
+    ensures puts { outside.old.write_faults ≤ outside.new.write_faults }
 {
-    let mut steps = Steps::<L>::new(blank);
-    let Ok(mut hall) = started_hall(alloc) else {
+    let Ok(mut hall) = start_hall(alloc) else {
         return End::Memory;
     };
     let Ok(mut intake) = Intake::make(alloc, BUFFER) else {
         return End::Memory;
     };
-    play_lines(alloc, &mut hall, &mut intake, script, sink, &mut steps)
-}
-
-/// Plays a script over a new hall.
-pub fn play_script<S: Source, W: Sink>(alloc: Global, script: &mut S, sink: &mut W) -> End
-    ensures play { PlayEnds (S.left script.old) (S.left script.new) (W.written sink.old) (W.written sink.new) result }
-    ensures end { result ≡ End.Done → S.ends script.new ≡ counted (S.ends script.old) }
-    ensures read_cause { result ≡ End.ReadFailed → Rose (S.faults script.old) (S.faults script.new) }
-    ensures put_cause { result ≡ End.PutFailed → Rose (W.faults sink.old) (W.faults sink.new) }
-    ensures reads { S.faults script.old ≤ S.faults script.new }
-    ensures puts { W.faults sink.old ≤ W.faults sink.new }
-{
-    play_counted::<Brand, S, W>(alloc, Blank::new(1), script, sink)
+    play_lines(alloc, &mut hall, &mut intake, outside, steps)
 }

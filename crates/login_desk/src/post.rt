@@ -1,11 +1,11 @@
 ghost use Rattle.std.specs.Prelude.{◌≡◌, IfOk};
-ghost use Rattle.login_desk.specs.Asks.{asked, form_with, form_of, post};
+ghost use Rattle.login_desk.specs.Asks.{ask_or_bad, form_with, form_of, post};
 
 use crate::credentials::{exact_name, password_text, user_name};
 use crate::pairs::{Pair, value_of};
 use crate::place::{Place, bad};
-use crate::posted_to::{FormKind, posted_to};
-use facts::{Ask, Form};
+use crate::post_target::{FormKind, post_target};
+use facts::{Ask, Form, Post};
 use login_base::{Memory, Name, Sequence};
 use std::alloc::Global;
 
@@ -49,16 +49,16 @@ fn form_of(alloc: Global, kind: FormKind, pairs: &[Pair]) -> Result<Result<Form,
 
 /// The ask of a post's pairs.
 pub fn post_ask(alloc: Global, pairs: &[Pair]) -> Result<Ask, Memory>
-    ensures ask { IfOk result (λ ask. ask ≡ asked (post pairs.now)) }
+    ensures ask { IfOk result (λ ask. ask ≡ ask_or_bad (post pairs.now)) }
 {
-    match posted_to(pairs) {
+    match post_target(pairs) {
         Ok(to) => match form_of(alloc, to.form, pairs)? {
-            Ok(form) => Ok(Ask::Post {
+            Ok(form) => Ok(Ask::Post(Post {
                 root: to.root,
                 tab: to.tab,
                 code: to.code,
                 form,
-            }),
+            })),
             Err(place) => bad(alloc, place),
         },
         Err(place) => bad(alloc, place),

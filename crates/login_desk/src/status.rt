@@ -2,7 +2,7 @@ ghost use Rattle.std.specs.Prelude.{◌≡◌};
 ghost use Rattle.login_desk.specs.Statuses.{number_of};
 
 /// What the program ends with: 0 where the script was read to its end and each line is answered, 2
-/// where the words are outside the grammar, 4 where a read failed, 5 where a write failed, 7 on
+/// where the arguments are outside the grammar, 4 where a read failed, 5 where a write failed, 7 on
 /// want of memory, and 9 where the script has 2^32 bytes or more.
 #[derive(Clone, Copy, Debug, PartialEq, Eq)]
 pub struct Status(pub u8);
@@ -12,7 +12,7 @@ pub struct Status(pub u8);
 pub enum Outcome {
     /// The script was read to its end, and every line is answered.
     Done,
-    /// The words are outside the grammar.
+    /// The arguments are outside the grammar.
     Usage,
     /// A read failed.
     ReadFailed,
@@ -24,7 +24,6 @@ pub enum Outcome {
 }
 
 impl Outcome {
-    /// The status of an outcome.
     pub fn status(self) -> Status
         ensures number { result.0 ≡ number_of self }
     {

@@ -1,26 +1,29 @@
 ghost use Rattle.std.specs.Prelude.{◌≡◌, ◌<◌, ◌≤◌, ◌-◌, ◌^◌, ◌++◌, [], ◌∷◌, true, false, OnOk, IfOk};
 ghost use Rattle.facts.specs.Realms.{has_realm};
-ghost use Rattle.facts.specs.Serials.{last_tab_serial, last_stored_serial};
-ghost use Rattle.facts.specs.Words.{words};
+ghost use Rattle.hall_answers.specs.HasSerials.{HasSerials};
+ghost use Rattle.reply_words.specs.Words.{words};
 ghost use Rattle.login_base.specs.Outside.{Rose};
 ghost use Rattle.login_hall.specs.Begun.{solution_of};
 ghost use Rattle.login_hall.specs.HallState.{facts_of, IsUnchanged};
 ghost use Rattle.login_hall.specs.Legal.{Follows, Raises};
-ghost use Rattle.login_desk.specs.Lines.{is_passed};
+ghost use Rattle.login_desk.specs.Lines.{is_skipped};
+ghost use Rattle.login_desk.specs.Outside.{IsUnread};
 ghost use Rattle.login_desk.specs.Play.{entry_of_line};
-ghost use Rattle.login_desk.specs.Turn.{Answers, TurnEnds, line_text};
+ghost use Rattle.login_desk.specs.Turn.{Answers, TurnEnds, line_play};
 
-use crate::lines::{Asked, asked_of, is_passed};
-use facts::{Reply, Solved, words_of};
-use login_base::{Memory, Put, Sink, Steps, discard};
+use crate::lines::{LineAsk, is_skipped, line_ask};
+use crate::outside::Outside;
+use facts::{Reply, Solved};
+use login_base::{Memory, Put, Sink, Source, Steps, discard};
 use login_hall::{Begun, Hall, Proposal};
+use reply_words::words_of;
 use std::alloc::Global;
 use std::sync::ledger::Ledger;
 
 /// How one line came out.
 #[derive(Clone, Copy, Debug, PartialEq, Eq)]
 pub enum Turn {
-    /// The line was passed over, or its reply was written.
+    /// The line asks nothing, or its reply line was written.
     Told,
     /// A write failed.
     Failed,
@@ -28,7 +31,7 @@ pub enum Turn {
 }
 
 /// The solved ask of one that was begun: the hash of its password is made here.
-fn solved(begun: Begun) -> Solved
+fn solve(begun: Begun) -> Solved
     ensures { result ≡ solution_of begun }
 {
     match begun {
@@ -45,8 +48,7 @@ fn propose_line<L: Ledger>(
     steps: &mut Steps<L>,
 ) -> Result<Proposal, Memory>
     requires realm { has_realm (facts_of hall.old) ≡ true }
-    requires tabs { last_tab_serial (facts_of hall.old) ≤ 2 ^ 63 - 8 }
-    requires stored { last_stored_serial (facts_of hall.old) ≤ 2 ^ 63 - 8 }
+    requires serials { HasSerials (facts_of hall.old) (2 ^ 63 - 8) }
     ensures entry { IfOk result (λ p. p ≡ entry_of_line hall.old.base hall.old.journal line.now) }
     ensures follows { IfOk result (λ p. Follows hall.new.base hall.new.journal p) }
     ensures waiting { IfOk result (λ p. hall.new.waiting ≡ p.added) }
@@ -54,12 +56,11 @@ fn propose_line<L: Ledger>(
     ensures raises { IfOk result (λ p. Raises (facts_of hall.old) (facts_of hall.old ++ p.added)) }
     ensures same { IsUnchanged hall.old hall.new }
 {
-    let Asked { moment, words, ask } = asked_of(alloc, line)?;
-    let solved = solved(hall.begin(ask, &words));
-    hall.propose(0, moment, words, solved, steps)
+    let LineAsk { moment, draws, ask } = line_ask(alloc, line)?;
+    let solved = solve(hall.begin(ask, &draws));
+    hall.propose(0, moment, draws, solved, steps)
 }
 
-/// The words of a reply, as a line.
 fn text_of(alloc: Global, reply: &Reply) -> Result<Vec<u8>, Memory>
     ensures { IfOk result (λ text. text.items ≡ words reply.now ++ 10 ∷ []) }
 {
@@ -76,11 +77,10 @@ pub(crate) fn enter_line<L: Ledger>(
     steps: &mut Steps<L>,
 ) -> Result<Vec<u8>, Memory>
     requires realm { has_realm (facts_of hall.old) ≡ true }
-    requires tabs { last_tab_serial (facts_of hall.old) ≤ 2 ^ 63 - 8 }
-    requires stored { last_stored_serial (facts_of hall.old) ≤ 2 ^ 63 - 8 }
-    requires wanted { is_passed line.now ≡ false }
+    requires serials { HasSerials (facts_of hall.old) (2 ^ 63 - 8) }
+    requires wanted { is_skipped line.now ≡ false }
     ensures entry { OnOk result (Answers hall.old hall.new line.now) }
-    ensures text { IfOk result (λ text. text.items ≡ line_text hall.old.base hall.old.journal line.now) }
+    ensures text { IfOk result (λ text. text.items ≡ (line_play hall.old.base hall.old.journal line.now).text) }
 {
     let proposal = propose_line(alloc, hall, line, steps)?;
     let reply = hall.adopt(proposal);
@@ -90,25 +90,25 @@ pub(crate) fn enter_line<L: Ledger>(
 }
 
 /// Answers one line.
-pub fn answer_line<L: Ledger, W: Sink>(
+pub fn answer_line<L: Ledger, S: Source, W: Sink>(
     alloc: Global,
     hall: &mut Hall,
     line: &[u8],
-    sink: &mut W,
+    outside: &mut Outside<S, W>,
     steps: &mut Steps<L>,
 ) -> Turn
     requires realm { has_realm (facts_of hall.old) ≡ true }
-    requires tabs { last_tab_serial (facts_of hall.old) ≤ 2 ^ 63 - 8 }
-    requires stored { last_stored_serial (facts_of hall.old) ≤ 2 ^ 63 - 8 }
-    ensures turn { TurnEnds hall.old hall.new line.now (W.written sink.old) (W.written sink.new) result }
-    ensures cause { result ≡ Turn.Failed → Rose (W.faults sink.old) (W.faults sink.new) }
-    ensures faults { W.faults sink.old ≤ W.faults sink.new }
+    requires serials { HasSerials (facts_of hall.old) (2 ^ 63 - 8) }
+    ensures turn { TurnEnds hall.old hall.new line.now outside.old.written outside.new.written result }
+    ensures cause { result ≡ Turn.Failed → Rose outside.old.write_faults outside.new.write_faults }
+    ensures faults { outside.old.write_faults ≤ outside.new.write_faults }
+    ensures unread { IsUnread outside.old outside.new }
 {
-    if is_passed(line) {
+    if is_skipped(line) {
         return Turn::Told;
     }
     match enter_line(alloc, hall, line, steps) {
-        Ok(text) => match sink.put(text.as_slice()) {
+        Ok(text) => match outside.put(text.as_slice()) {
             Put::All => Turn::Told,
             Put::Failed => Turn::Failed,
         },

@@ -4,11 +4,13 @@ use Rattle.facts.specs.declared.ask.Ask.{Ask}
 use Rattle.facts.specs.declared.ask.Ask.TheVariants as asks
 use Rattle.facts.specs.declared.fact.Fact.{Fact}
 use Rattle.facts.specs.declared.finding.Finding.{Finding}
-use Rattle.hall_answers.specs.Setting.{Setting}
+use Rattle.facts.specs.Solved.{SolvedAsk}
+use Rattle.hall_answers.specs.Setting.{Setting, setting_at}
+use Rattle.login_base.specs.declared.draws.Draws.{Draws}
 use Rattle.hall_answers.proofs.Lifts.{Lifts, nothing}
 use Rattle.tab_asks.proofs.SerialLemmas.{new_tab_lifts, page_lifts, post_lifts}
 use Rattle.admin_asks.proofs.SerialLemmas.{admin_lifts}
-use Rattle.login_hall.specs.Due.{due_ask}
+use Rattle.login_hall.specs.Due.{due, due_ask}
 use Rattle.login_hall.specs.Legal.{Raises}
 
 raised : (most : ℕ) (old more : List Fact) → most ≤ 4 → Lifts most old more → Raises old (old ++ more)
@@ -24,3 +26,6 @@ raises setting (asks.Verify key) finding = raised 0 setting.facts _ (omega arith
 raises setting (asks.Reset key password) finding = raised 0 setting.facts _ (omega arith) (nothing 0 setting.facts)
 raises setting (asks.Logout root) finding = raised 0 setting.facts _ (omega arith) (nothing 0 setting.facts)
 raises setting (asks.Admin access verb) finding = raised 2 setting.facts _ (omega arith) (admin_lifts setting access verb finding)
+
+pub raises_at : (facts : List Fact) (solved : SolvedAsk) (moment : ℕ) (draws : Draws) → Raises facts (facts ++ (due facts solved moment draws).added)
+raises_at facts solved moment draws = raises (setting_at facts moment draws) solved.ask solved.finding

@@ -1,5 +1,5 @@
 -- The facts of a start.
-use Rattle.std.proofs.Common.{◌≡◌, ℕ, ◌+◌, ◌*◌, ◌≤◌, Bool, true, false, ◌||◌, List, [], ◌∷◌, ◌++◌, Option, Some, None, refl, ap, sym, ◌∙◌, ◌<◌, suc, length, drop, get_or, append_assoc, arith}
+use Rattle.std.proofs.Common.{◌≡◌, ℕ, ◌+◌, ◌*◌, ◌≤◌, Bool, true, false, ◌||◌, List, [], ◌∷◌, ◌++◌, Option, Some, None, refl, ap, sym, subst, ◌∙◌, ◌<◌, suc, length, drop, get_or, append_assoc, arith}
 use Rattle.std.specs.Prelude.{is_some, if◌then◌else◌}
 use Rattle.std.specs.List.{list_any}
 use Rattle.std.specs.Option.{option_or}
@@ -191,3 +191,8 @@ start_raises base (Some realm) few =
       stored = let t = ap last_stored_serial e in let s = added.stored in omega (arith, few, s, t);
       version = let t = ap last_version e in let v = added.version in let w : last_version (base ++ put) ≡ last_version base + 1 = last_version_more base put in omega (arith, t, v, w);
     }
+
+pub started_raises : (base : List Fact) (realm : Option RealmParts) (added : List Fact) → IsStart base realm added → RaisesAtStart base (base ++ added)
+started_raises base realm added start =
+    let P : List Fact → Type 0 = λ more. RaisesAtStart base (base ++ more) in
+    subst P (sym start.facts) (start_raises base start.put start.few)

@@ -1,5 +1,5 @@
 -- What a start adds to a base.
-use Rattle.std.specs.Prelude.{◌≡◌, ℕ, ◌+◌, Bool, true, false, List, [], ◌∷◌, ◌++◌, Option, Some, None, is_some, if◌then◌else◌}
+use Rattle.std.specs.Prelude.{◌≡◌, ◌≤◌, length, ℕ, ◌+◌, Bool, true, false, List, [], ◌∷◌, ◌++◌, Option, Some, None, is_some, if◌then◌else◌}
 use Rattle.login_base.specs.declared.id.UserId.{UserId}
 use Rattle.realm_data.specs.declared.realm_parts.RealmParts.{RealmParts}
 use Rattle.realm_data.specs.declared.realm_parts.RealmUser.{RealmUser}
@@ -61,11 +61,12 @@ unfoldable pub start_facts : List Fact → Option RealmParts → List Fact
 start_facts base put = realm_facts (last_version base) put ++ users_facts base (last_stored_serial base) (users_after put (current_realm base))
 
 -- the facts that a start with this realm adds to a base: it puts a realm or none, and then adds the users of the realm
--- that is in force
+-- that is in force, which are 10,000 at most
 pub record IsStart (base : List Fact) (realm : Option RealmParts) (added : List Fact) : Type 0 where
   pub put : Option RealmParts
   pub is_put : IsPut base realm put
   pub facts : added ≡ start_facts base put
+  pub few : length (users_after put (current_realm base)) ≤ 10000
 
 -- a realm that is handed in can be played
 abbrev pub IsPlayable : Option RealmParts → Type 0

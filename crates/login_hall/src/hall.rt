@@ -89,7 +89,7 @@ fn proposal_of(
 }
 
 /// The proposal of an ask at a moment.
-#[tactic(auto, using(crate::proofs::SerialLemmas::raises))]
+#[tactic(auto, using(crate::proofs::SerialLemmas::raises_at))]
 fn proposal_at<L: Ledger>(
     alloc: Global,
     facts: &Chronicle,

@@ -4,7 +4,6 @@ ghost use Rattle.facts.specs.Realms.{last_version};
 ghost use Rattle.facts.specs.Serials.{last_stored_serial};
 ghost use Rattle.admin_asks.specs.Account.{serials_of};
 ghost use Rattle.login_base.specs.Steps.{IsBlank};
-ghost use Rattle.login_hall.specs.Legal.{RaisesAtStart};
 ghost use Rattle.login_hall.specs.Start.{put_without, IsPutGiven, IsPut, IsStart, realm_facts, new_user_facts, serial_after, users_facts, users_after};
 
 use admin_asks::add_account;
@@ -167,8 +166,7 @@ pub(crate) fn start_facts<L: Ledger>(
     requires stored { last_stored_serial chronicle.now.list ≤ 2 ^ 63 - 2 ^ 20 }
     requires version { last_version chronicle.now.list ≤ 2 ^ 63 - 2 ^ 20 }
     requires blank { IsBlank blank L.name L.parts }
-    ensures start { IfOk result (λ added. IsStart chronicle.now.list realm added) }
-    ensures raises { IfOk result (λ added. RaisesAtStart chronicle.now.list (chronicle.now.list ++ added)) }
+    ensures { IfOk result (λ added. IsStart chronicle.now.list realm added) }
 {
     let mut steps = Steps::<L>::new(blank);
     let facts = Facts::of(chronicle);

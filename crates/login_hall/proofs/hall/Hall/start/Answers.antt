@@ -2,7 +2,7 @@ use Rattle.std.proofs.Common.{ap, subst, ◌∙◌}
 use Rattle.login_hall.specs.HallState.{HallState}
 use Rattle.login_hall.specs.Start.{IsStart}
 use Rattle.login_hall.proofs.Pushes.{all_based}
-use Rattle.login_hall.proofs.StartLemmas.{no_mark, started_has_realm}
+use Rattle.login_hall.proofs.StartLemmas.{no_mark, started_has_realm, started_raises}
 use Rattle.login_hall.proofs.hall.Hall.start.Goals as goal
 
 pub start_facts-requires-clause-stored : goal.start_facts-requires-clause-stored
@@ -35,3 +35,10 @@ returns-clause-realm c =
     let empty = ap (λ (s : HallState). s.journal) c.self.view_is ∙ c.requires.fresh in
     let whole = all_based h.facts.list h.based h.journal.items h.last c.self.invariant empty ∙ ap (λ (s : HallState). s.base) c.self.view_is in
     started_has_realm _ c.args.realm c.in_ok-facts.facts (subst (λ l. IsStart l c.args.realm c.in_ok-facts.facts) whole c.in_ok-facts.ensures)
+
+pub returns-clause-raises : goal.returns-clause-raises
+returns-clause-raises c =
+    let h = c.self.inside in
+    let empty = ap (λ (s : HallState). s.journal) c.self.view_is ∙ c.requires.fresh in
+    let whole = all_based h.facts.list h.based h.journal.items h.last c.self.invariant empty ∙ ap (λ (s : HallState). s.base) c.self.view_is in
+    started_raises _ c.args.realm c.in_ok-facts.facts (subst (λ l. IsStart l c.args.realm c.in_ok-facts.facts) whole c.in_ok-facts.ensures)

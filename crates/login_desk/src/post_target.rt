@@ -1,6 +1,6 @@
 ghost use Rattle.std.specs.Prelude.{◌≡◌};
 ghost use Rattle.std.specs.Option.{option_copied};
-ghost use Rattle.login_desk.specs.Asks.{root_from, root_given, id_given, kind_with, form_kind, posted_to};
+ghost use Rattle.login_desk.specs.Asks.{root_from, root_given, id_given, kind_with, form_kind, post_target};
 
 use crate::pairs::{Pair, has, value_of};
 use crate::place::Place;
@@ -16,7 +16,7 @@ pub enum FormKind {
 
 /// What a post is posted to, and as which form.
 #[derive(Clone, Copy, Debug, PartialEq, Eq)]
-pub struct PostedTo {
+pub struct PostTarget {
     pub root: Option<RootKey>,
     pub tab: TabKey,
     pub code: Code,
@@ -84,15 +84,15 @@ fn form_kind(pairs: &[Pair]) -> Result<FormKind, Place>
 }
 
 /// What a post is posted to, where these pairs are well-formed.
-#[tactic(auto, unfolding(crate::specs::Asks::posted_to))]
-pub fn posted_to(pairs: &[Pair]) -> Result<PostedTo, Place>
-    ensures to { result ≡ posted_to pairs.now }
+#[tactic(auto, unfolding(crate::specs::Asks::post_target))]
+pub fn post_target(pairs: &[Pair]) -> Result<PostTarget, Place>
+    ensures to { result ≡ post_target pairs.now }
 {
     let root = root_given(pairs)?;
     let tab = id_given(Place::Tab, pairs)?;
     let code = id_given(Place::Code, pairs)?;
     let form = form_kind(pairs)?;
-    Ok(PostedTo {
+    Ok(PostTarget {
         root,
         tab: TabKey(tab),
         code: Code(code),

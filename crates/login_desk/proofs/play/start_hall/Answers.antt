@@ -1,6 +1,6 @@
 use Rattle.std.proofs.Common.{◌++◌, ap, ◌∙◌}
 use Rattle.login_desk.proofs.FirstLemmas.{first_stored, first_version, first_started}
-use Rattle.login_desk.proofs.play.started_hall.Goals as goal
+use Rattle.login_desk.proofs.play.start_hall.Goals as goal
 
 pub start-requires-clause-stored : goal.start-requires-clause-stored
 start-requires-clause-stored c = first_stored c.in_ok-hall.hall.base c.in_ok-hall.ensures.base
