@@ -241,7 +241,7 @@ const LEVELS: [(u32, u64, u32, u32, bool); 12] = [
 fn a_level_needs_a_live_condition_in_its_range(rt: HostRuntime) -> Result<(), Fail> {
     for (live, age, client_level, level, want) in LEVELS {
         let taken = binds(rt.alloc(), live, age, client_level, level)?;
-        assert_eq!(rt; taken, want, "at {live} {age} {client_level} {level}");
+        assert_eq!(rt; taken, want);
     }
     Ok(())
 }
@@ -308,21 +308,9 @@ const NAMES: [(&str, bool, bool); 8] = [
 fn levels_ascend_and_clients_and_users_are_apart(rt: HostRuntime) -> Result<(), Fail> {
     let alloc = rt.alloc();
     for (names, ascend, are_apart) in NAMES {
-        assert_eq!(rt;
-            takes_names(alloc, Named::Levels, names)?,
-            ascend,
-            "at {names}"
-        );
-        assert_eq!(rt;
-            takes_names(alloc, Named::Clients, names)?,
-            are_apart,
-            "at {names}"
-        );
-        assert_eq!(rt;
-            takes_names(alloc, Named::Users, names)?,
-            are_apart,
-            "at {names}"
-        );
+        assert_eq!(rt; takes_names(alloc, Named::Levels, names)?, ascend);
+        assert_eq!(rt; takes_names(alloc, Named::Clients, names)?, are_apart);
+        assert_eq!(rt; takes_names(alloc, Named::Users, names)?, are_apart);
     }
     Ok(())
 }
@@ -340,17 +328,19 @@ fn takes_count(alloc: Global, named: Named, count: usize) -> Result<bool, Memory
 }
 
 #[test]
-fn clients_are_1_to_64_and_users_10_000_at_most(rt: HostRuntime) -> Result<(), Fail> {
+fn clients_are_1_to_64(rt: HostRuntime) -> Result<(), Fail> {
     let alloc = rt.alloc();
     for (count, want) in [(0, false), (1, true), (64, true), (65, false)] {
-        assert_eq!(rt;
-            takes_count(alloc, Named::Clients, count)?,
-            want,
-            "at {count}"
-        );
+        assert_eq!(rt; takes_count(alloc, Named::Clients, count)?, want);
     }
-    assert!(rt; takes_count(alloc, Named::Users, 10_000)?);
-    assert!(rt; !takes_count(alloc, Named::Users, 10_001)?);
+    Ok(())
+}
+
+/// Each user's name is compared with each other one's: a second when built, minutes under `rt try`.
+#[test]
+fn users_are_10_000_at_most(rt: HostRuntime) -> Result<(), Fail> {
+    assert!(rt; takes_count(rt.alloc(), Named::Users, 10_000)?);
+    assert!(rt; !takes_count(rt.alloc(), Named::Users, 10_001)?);
     Ok(())
 }
 
