@@ -17,7 +17,7 @@ const IN_TURN: Given = (
 
 /// The account gets its password while the post is hashed. The post is refused and adds nothing,
 /// so that the same one can come again.
-const MOVED: [LateAsk; 8] = [
+const MOVED: [LateAsk; 3] = [
     (
         PLAIN,
         &[OPEN],
@@ -56,60 +56,10 @@ user 1 in a session
 tab 2 completed
 ",
     ),
-    // Another root is refused before.
-    (
-        PLAIN,
-        &[OPEN],
-        Line::Post(9, Filled::Both("form", "ann", "pw1"), 3),
-        &[ANN],
-        "refused 7 UnknownTab
-refused 7 UnknownTab
-",
-    ),
-    // So is a stale code.
-    (
-        PLAIN,
-        &[OPEN],
-        POST,
-        &[ANN, Line::Page(1)],
-        "refused 9 Stale current=[4]
-refused 9 Stale current=[4]
-",
-    ),
-    // So is another user than the one who logged in meanwhile.
-    (
-        PLAIN,
-        &[OPEN, BOB],
-        POST,
-        &[Line::Post(1, Filled::Both("form", "bob", "pw2"), 3), ANN],
-        "refused 10 OtherUser tab=ann session=bob
-refused 10 OtherUser tab=ann session=bob
-",
-    ),
-    // So is a tab that the same post completed meanwhile.
-    (
-        PLAIN,
-        &[OPEN],
-        POST,
-        &[ANN, POST],
-        "refused 11 Finished
-refused 11 Finished
-",
-    ),
-    // And so is an execution that isn't asked.
-    (
-        PLAIN,
-        &[OPEN],
-        Line::Post(1, Filled::Both("other", "ann", "pw1"), 3),
-        &[ANN],
-        "refused 12 NotAsked
-refused 12 NotAsked
-",
-    ),
 ];
 
 /// What comes between doesn't touch the user's password: the post is checked as it was begun.
-const KEPT: [LateAsk; 5] = [
+const KEPT: [LateAsk; 6] = [
     (
         PLAIN,
         &[OPEN, ANN],
@@ -166,6 +116,17 @@ refused 9 Stale current=[4]
         ANN,
         &[Line::Add("ann", None)],
         "refused 2 AdminRefused rule=UserTaken
+refused 2 AdminRefused rule=UserTaken
+",
+    ),
+    // An administrator comes in by the realm's key.
+    (
+        PLAIN,
+        &[],
+        Line::Keyed(0, "ann"),
+        &[],
+        "told user name=ann id=1
+user 1 ann
 refused 2 AdminRefused rule=UserTaken
 ",
     ),

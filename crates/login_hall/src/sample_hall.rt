@@ -130,10 +130,22 @@ fn late<L: Ledger>(
     Ok(text)
 }
 
-pub(crate) fn is_answered_late(rt: &impl Abort, alloc: Global, case: LateAsk) -> Result<(), Fail> {
-    let (given, _, _, _, text) = case;
+fn is_answered(rt: &impl Abort, alloc: Global, case: LateAsk, text: &str) -> Result<(), Fail> {
+    let (given, _, _, _, _) = case;
     let realm = realm_of(alloc, given)?;
     let answered = late::<Brand>(alloc, realm, case, Blank::new(1))?;
     assert_eq!(rt; answered.as_slice(), spelled(alloc, text)?.as_bytes());
     Ok(())
+}
+
+pub(crate) fn is_answered_late(rt: &impl Abort, alloc: Global, case: LateAsk) -> Result<(), Fail> {
+    let (_, _, _, _, text) = case;
+    is_answered(rt, alloc, case, text)
+}
+
+/// The ask is refused and adds nothing, so that the same ask is refused so again.
+pub(crate) fn is_refused_late(rt: &impl Abort, alloc: Global, case: LateAsk) -> Result<(), Fail> {
+    let (_, _, _, _, refusal) = case;
+    let text = format!(in alloc; "refused {refusal}\nrefused {refusal}\n")?;
+    is_answered(rt, alloc, case, &text)
 }
