@@ -40,10 +40,19 @@ impl Counting {
         ensures { result ≡ with_kind self kind }
     {
         match kind {
-            None => Counting { lasting: true, ..self },
-            Some(SecretKind::Password) => Counting { password: true, ..self },
+            None => Counting {
+                lasting: true,
+                ..self
+            },
+            Some(SecretKind::Password) => Counting {
+                password: true,
+                ..self
+            },
             Some(SecretKind::Otp) => Counting { otp: true, ..self },
-            Some(SecretKind::Recovery) => Counting { recovery: true, ..self },
+            Some(SecretKind::Recovery) => Counting {
+                recovery: true,
+                ..self
+            },
         }
     }
 
@@ -51,9 +60,15 @@ impl Counting {
         ensures { result ≡ without_kind self kind }
     {
         match kind {
-            SecretKind::Password => Counting { password: false, ..self },
+            SecretKind::Password => Counting {
+                password: false,
+                ..self
+            },
             SecretKind::Otp => Counting { otp: false, ..self },
-            SecretKind::Recovery => Counting { recovery: false, ..self },
+            SecretKind::Recovery => Counting {
+                recovery: false,
+                ..self
+            },
         }
     }
 }
@@ -125,5 +140,11 @@ pub fn has_evidence<L: Ledger>(
 ) -> bool
     ensures value { result ≡ has_evidence tab user id.now facts.now }
 {
-    fold_by(facts, &Evidence { tab, user, id }, Counting::nothing(), steps).some_counts()
+    fold_by(
+        facts,
+        &Evidence { tab, user, id },
+        Counting::nothing(),
+        steps,
+    )
+    .some_counts()
 }

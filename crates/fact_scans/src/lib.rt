@@ -10,6 +10,8 @@ mod realms;
 mod scan;
 mod serials;
 mod tabs;
+#[cfg(test)]
+mod tests;
 
 pub use accounts::{account_named, is_disabled, name_of, roles_of};
 pub use evidence::has_evidence;

@@ -19,6 +19,8 @@ mod rule;
 mod secret;
 mod solved;
 mod tabs;
+#[cfg(test)]
+mod tests;
 mod user_password;
 
 pub use admin::{AdminVerb, Life, NewUser, TokenAction};

@@ -5,10 +5,28 @@
 
 mod begun;
 mod due;
+#[cfg(test)]
+mod due_tests;
 mod found;
 mod hall;
+#[cfg(test)]
+mod late_tests;
+#[cfg(test)]
+mod order_tests;
+#[cfg(test)]
+mod page_tests;
 mod proposal;
+#[cfg(test)]
+mod sample_asks;
+#[cfg(test)]
+mod sample_hall;
+#[cfg(test)]
+mod sample_lines;
+#[cfg(test)]
+mod sample_realms;
 mod start;
+#[cfg(test)]
+mod start_tests;
 mod task;
 mod work;
 
