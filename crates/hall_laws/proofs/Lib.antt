@@ -1,0 +1,4 @@
+pub mod Gates
+pub mod TabStates
+pub mod Readiness
+pub mod PostReadiness
