@@ -1,4 +1,7 @@
+pub mod Codes
 pub mod Gates
-pub mod TabStates
-pub mod Readiness
 pub mod PostReadiness
+pub mod Readiness
+pub mod Repeating
+pub mod TabStates
+pub mod Unasked

@@ -100,11 +100,11 @@ is_fitting facts moment known asked named form finding check h =
       is_check = cc;
     }
 
-name_fits : (named : Option UserId) (user : UserId) (credential : ℕ) → name_check named ≡ checks.Fits user credential → named ≡ Some user
+pub name_fits : (named : Option UserId) (user : UserId) (credential : ℕ) → name_check named ≡ checks.Fits user credential → named ≡ Some user
 name_fits (Some other) user credential h = cc
 name_fits None user credential h = absurd cc
 
-password_fits : (target : Option UserId) (password : Option UserPassword) (finding : Finding) (user : UserId) (credential : ℕ)
+pub password_fits : (target : Option UserId) (password : Option UserPassword) (finding : Finding) (user : UserId) (credential : ℕ)
     → password_check target password finding ≡ checks.Fits user credential → target ≡ Some user
 unfolding password_check
 password_fits None password finding user credential h = absurd cc
@@ -160,11 +160,21 @@ behind setting post finding accepted =
 abbrev pub known_accepted : (setting : Setting) (post : Post) (finding : Finding) → IsAccepted setting post finding → KnownTab
 known_accepted setting post finding accepted = known_over accepted.known (facts_accepted setting post finding accepted)
 
-opened_behind : (setting : Setting) (post : Post) (finding : Finding) (accepted : IsAccepted setting post finding)
+pub opened_behind : (setting : Setting) (post : Post) (finding : Finding) (accepted : IsAccepted setting post finding)
     → (tab_state accepted.known.root accepted.known.tab (facts_accepted setting post finding accepted)).opening ≡ Some accepted.known.opening
 opened_behind setting post finding accepted =
     let b = behind setting post finding accepted in
     ap (λ (s : TabState). s.opening) b.is_state ∙ ap (λ (s : TabState). s.opening) b.known.is_state ∙ b.known.is_opened
+
+-- it isn't split either
+pub whole_behind : (setting : Setting) (post : Post) (finding : Finding) (accepted : IsAccepted setting post finding)
+    → same_user (known_accepted setting post finding accepted).state.named (user_of (live_session setting.moment (known_accepted setting post finding accepted).state)) ≡ Ok tt
+whole_behind setting post finding accepted =
+    let b = behind setting post finding accepted in
+    let live = live_session setting.moment accepted.known.state in
+    let same = subst (λ (n : Option UserId). same_user n (user_of live) ≡ Ok tt) b.current.is_named b.current.same in
+    let either = same_either accepted.named accepted.known.state.named (user_of live) same b.current.whole in
+    subst (λ (s : TabState). same_user s.named (user_of (live_session setting.moment s)) ≡ Ok tt) (sym b.is_state) either
 
 -- a user whom the progress lets in is ready
 pub progress_ready : (setting : Setting) (post : Post) (finding : Finding) (accepted : IsAccepted setting post finding) (user : UserId)
@@ -181,8 +191,6 @@ progress_ready setting post finding accepted user h =
     let live = live_session setting.moment known.state in
     let lets = lets_in more known.tab (who_of setting.moment now) (realm_of known.opening.version more) user h in
     let same = subst (λ (n : Option UserId). same_user n (user_of live) ≡ Ok tt) b.current.is_named b.current.same in
-    let either = same_either named known.state.named (user_of live) same b.current.whole in
-    let whole = subst (λ (s : TabState). same_user s.named (user_of (live_session setting.moment s)) ≡ Ok tt) (sym b.is_state) either in
     let who = concerned_is named known.state.named live same ∙ sym (ap (who_of setting.moment) b.is_state) ∙ lets.is_theirs in
     let enabled = enabled_is facts user (subst (λ (w : Option UserId). check_enabled facts w ≡ Ok tt) who b.fitting.enabled) in
     let passing : Passing = record { tab = known.tab; user = accepted.user; credential = accepted.credential; moment = setting.moment } in
@@ -192,7 +200,7 @@ progress_ready setting post finding accepted user h =
       realm = lets.realm;
       is_realm = lets.is_realm;
       is_unfinished = ap (λ (s : TabState). s.completed) b.is_state ∙ b.current.unfinished;
-      is_whole = whole_is now.named (live_session setting.moment now) whole;
+      is_whole = whole_is now.named (live_session setting.moment now) (whole_behind setting post finding accepted);
       is_theirs = lets.is_theirs;
       is_enabled = disabled_kept facts passing post.form user ∙ enabled;
       holds = lets.holds;
@@ -201,9 +209,9 @@ progress_ready setting post finding accepted user h =
 -- ---- posts
 
 -- the post is accepted, and this is what its tab is answered
-record Answered (setting : Setting) (post : Post) (finding : Finding) (user : UserId) : Type 0 where
-  accepted : IsAccepted setting post finding
-  done : ready_user (progress_of (facts_accepted setting post finding accepted) setting.moment (known_accepted setting post finding accepted)) ≡ Some user
+pub record Answered (setting : Setting) (post : Post) (finding : Finding) (user : UserId) : Type 0 where
+  pub accepted : IsAccepted setting post finding
+  pub done : ready_user (progress_of (facts_accepted setting post finding accepted) setting.moment (known_accepted setting post finding accepted)) ≡ Some user
 
 check_answered : (setting : Setting) (post : Post) (finding : Finding) (user : UserId) (known : KnownTab) (named : Option UserId) (check : Check)
     → check_tab setting.facts post.root post.tab ≡ Ok known
@@ -226,7 +234,7 @@ check_answered setting post finding user known named (checks.Fits fit credential
     record { accepted = accepted; done = sym (tab_done more setting (known_over known more)) ∙ h }
 check_answered setting post finding user known named (checks.Wrong wrong) is_known is_named fits h = absurd cc
 
-answered : (setting : Setting) (post : Post) (finding : Finding) (user : UserId) → done_for (due_post setting post finding).reply.what ≡ Some user
+pub answered : (setting : Setting) (post : Post) (finding : Finding) (user : UserId) → done_for (due_post setting post finding).reply.what ≡ Some user
     → Answered setting post finding user
 unfolding due_post post_in post_where
 answered setting post finding user h =

@@ -2,5 +2,7 @@
 #![tactic(auto)]
 
 pub mod ready;
+pub mod repeats;
 
 pub use ready::{open_completes, page_completes, post_completes};
+pub use repeats::{accepted_post_again, completed_post_again};
