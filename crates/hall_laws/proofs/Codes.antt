@@ -1,0 +1,58 @@
+-- The serials of the codes that were shown.
+use Rattle.std.proofs.Common.{◌≡◌, ℕ, ◌<◌, ◌≤◌, Bool, true, false, ◌&&◌, List, [], ◌∷◌, ◌++◌, Some, None, refl, sym, ap, ◌∙◌, arith}
+use Rattle.std.specs.Prelude.{Option, fold, ◌==◌, if◌then◌else◌}
+use Rattle.std.specs.List.{All, list_any}
+use Rattle.std.proofs.lemmas.Bool.{and_left, and_parts, or_parts, eqb-true, ne_eqb}
+use Rattle.std.proofs.lemmas.List.Elements.{All-nil, All-cons, All-head, All-tail, All-weaker, All-append}
+use Rattle.login_base.specs.IdText.{same_id}
+use Rattle.login_base.specs.declared.id.Code.{Code}
+use Rattle.login_base.specs.declared.id.RootKey.{RootKey}
+use Rattle.login_base.specs.declared.id.TabKey.{TabKey}
+use Rattle.facts.specs.declared.fact.Fact.{Fact}
+use Rattle.facts.specs.declared.fact.Fact.TheVariants as events
+use Rattle.facts.specs.declared.tabs.TabState.{TabState}
+use Rattle.facts.specs.Serials.{tab_serial_after, last_tab_serial}
+use Rattle.facts.specs.Tabs.{tab_state, tab_after, no_tab}
+use Rattle.facts.proofs.SerialLemmas.{last_tab_serial_more}
+use Rattle.tab_asks.specs.Post.{is_code}
+use Rattle.hall_laws.specs.Repeats.{code_serial, HasCodesCounted}
+
+-- ---- the code that a tab showed last
+
+abbrev pub IsBelow : ℕ → Option Code → Type 0
+IsBelow n None = Unit {0}
+IsBelow n (Some code) = code.0.serial ≤ n
+
+shown_below : (n : ℕ) (here : Bool) (code : Code) (own : Option Code) → code.0.serial ≤ n → IsBelow n own → IsBelow n (if here then Some code else own)
+shown_below n true code own shown below = shown
+shown_below n false code own shown below = below
+
+below_after : (root : RootKey) (tab : TabKey) (n : ℕ) (state : TabState) (fact : Fact) → code_serial fact ≤ n → IsBelow n state.code → IsBelow n (tab_after root tab state fact).code
+below_after root tab n state (events.Rendered of code action offer) shown below = shown_below n (same_id of.0 tab.0) code state.code shown below
+below_after root tab n state fact shown below = below
+
+all_below : (root : RootKey) (tab : TabKey) (n : ℕ) (state : TabState) (facts : List Fact) → All (λ fact. code_serial fact ≤ n) facts → IsBelow n state.code
+    → IsBelow n (fold (tab_after root tab) state facts).code
+all_below root tab n state [] all below = below
+all_below root tab n state (fact ∷ facts) all below =
+    let head : code_serial fact ≤ n = All-head (λ (f : Fact). code_serial f ≤ n) fact facts all in
+    let tail = All-tail (λ (f : Fact). code_serial f ≤ n) fact facts all in
+    all_below root tab n (tab_after root tab state fact) facts tail (below_after root tab n state fact head below)
+
+-- it has at most the last serial
+pub last_below : (root : RootKey) (tab : TabKey) (facts : List Fact) → HasCodesCounted facts → IsBelow (last_tab_serial facts) (tab_state root tab facts).code
+unfolding tab_state
+last_below root tab facts counted = all_below root tab (last_tab_serial facts) no_tab facts counted tt
+
+pub shown_at_most : (code : Code) (own : Option Code) (n : ℕ) → is_code code own ≡ true → IsBelow n own → code.0.serial ≤ n
+shown_at_most code None n h below = absurd cc
+shown_at_most code (Some shown) n h below =
+    let front = and_parts (shown.0.serial == code.0.serial && shown.0.high == code.0.high) (shown.0.low == code.0.low) h in
+    let serial = and_parts (shown.0.serial == code.0.serial) (shown.0.high == code.0.high) front.0 in
+    let e = eqb-true shown.0.serial code.0.serial serial.0 in
+    omega (arith, e, below)
+
+pub other_code : (code next : Code) → code.0.serial < next.0.serial → is_code code (Some next) ≡ false
+other_code code next less =
+    and_left (next.0.serial == code.0.serial && next.0.high == code.0.high) (next.0.low == code.0.low)
+    (and_left (next.0.serial == code.0.serial) (next.0.high == code.0.high) (ne_eqb next.0.serial code.0.serial (λ e. omega (arith, e, less))))

@@ -1,0 +1,279 @@
+-- When a post is answered that its login is complete.
+use Rattle.std.proofs.Common.{◌≡◌, ℕ, true, false, List, Some, None, refl, sym, ap, subst, ◌∙◌}
+use Rattle.std.specs.Prelude.{Option, Result, Ok, ◌↔◌}
+use Rattle.login_base.specs.declared.id.RootKey.{RootKey}
+use Rattle.login_base.specs.declared.id.TabKey.{TabKey}
+use Rattle.login_base.specs.declared.id.UserId.{UserId}
+use Rattle.facts.specs.declared.ask.Form.{Form}
+use Rattle.facts.specs.declared.ask.Form.TheVariants as forms
+use Rattle.facts.specs.declared.ask.Post.{Post}
+use Rattle.facts.specs.declared.fact.Fact.{Fact}
+use Rattle.facts.specs.declared.finding.Finding.{Finding}
+use Rattle.facts.specs.declared.finding.Finding.TheVariants as findings
+use Rattle.facts.specs.declared.reply.Need.{Need}
+use Rattle.facts.specs.declared.tabs.Opening.{Opening}
+use Rattle.facts.specs.declared.tabs.TabState.{TabState}
+use Rattle.facts.specs.declared.user_password.UserPassword.{UserPassword}
+use Rattle.facts.specs.Accounts.{account_named}
+use Rattle.facts.specs.Realms.{realm_of}
+use Rattle.facts.specs.Tabs.{tab_state, live_session, who_of}
+use Rattle.hall_answers.specs.declared.refusal.Refusal.{Refusal}
+use Rattle.hall_answers.specs.declared.refusal.Refusal.TheVariants as refusals
+use Rattle.hall_answers.specs.Setting.{Setting}
+use Rattle.login_progress.specs.declared.known_tab.KnownTab.{KnownTab}
+use Rattle.login_progress.specs.PasswordFor.{password_for}
+use Rattle.login_progress.specs.Progress.{progress_of, asked_in}
+use Rattle.tab_asks.specs.declared.check.Check.{Check}
+use Rattle.tab_asks.specs.declared.check.Check.TheVariants as checks
+use Rattle.tab_asks.specs.declared.passing.Passing.{Passing}
+use Rattle.tab_asks.specs.Forms.{named_by, target_of, concerned}
+use Rattle.tab_asks.specs.Post.{is_code, check_code, check_user, check_post, has_need, check_asked, check_credential, check_form, password_check, name_check, check_of, known_over, answer_to_accepted, answer_to_wrong, answer_to_check, post_where, post_by, post_in, due_post}
+use Rattle.tab_asks.specs.Visit.{tab_in, tab_with, check_tab, check_whole, check_unfinished, check_enabled, user_of, same_user}
+use Rattle.hall_laws.specs.Ready.{IsReady, IsAccepted, IsReadyAfterPost, facts_accepted, done_for}
+use Rattle.hall_laws.proofs.Gates.{first_passed, test_passed, test_failed, whole_is, enabled_is, same_either, concerned_is, settled_done}
+use Rattle.hall_laws.proofs.Readiness.{lets_in, ready_user, tab_done, known_at, ready_progress}
+use Rattle.hall_laws.proofs.TabStates.{named_as, with_name, evidence_state, disabled_kept}
+
+-- ---- what an accepted post passed
+
+-- a known tab is as the facts say
+pub record IsKnown (facts : List Fact) (known : KnownTab) : Type 0 where
+  pub is_state : known.state ≡ tab_state known.root known.tab facts
+  pub is_opened : (tab_state known.root known.tab facts).opening ≡ Some known.opening
+
+opening_known : (facts : List Fact) (root : RootKey) (tab : TabKey) (known : KnownTab) (found : Option Opening) → (tab_state root tab facts).opening ≡ found
+    → tab_with root tab (tab_state root tab facts) found ≡ Ok known → IsKnown facts known
+opening_known facts root tab known (Some opening) is h =
+    let e : known_at root tab opening facts ≡ known = cc in
+    subst (λ (k : KnownTab). IsKnown facts k) e (record { is_state = refl; is_opened = is })
+opening_known facts root tab known None is h = absurd cc
+
+pub tab_known : (facts : List Fact) (root : Option RootKey) (tab : TabKey) (known : KnownTab) → check_tab facts root tab ≡ Ok known → IsKnown facts known
+unfolding check_tab tab_in
+tab_known facts (Some root) tab known h = opening_known facts root tab known (tab_state root tab facts).opening refl h
+tab_known facts None tab known h = absurd cc
+
+-- what check_post found
+pub record Current (facts : List Fact) (moment : ℕ) (known : KnownTab) (post : Post) (named : Option UserId) : Type 0 where
+  pub code_shown : is_code post.code known.state.code ≡ true
+  pub whole : same_user known.state.named (user_of (live_session moment known.state)) ≡ Ok tt
+  pub same : same_user (named_by facts post.form) (user_of (live_session moment known.state)) ≡ Ok tt
+  pub unfinished : known.state.completed ≡ false
+  pub is_named : named_by facts post.form ≡ named
+
+pub is_current : (facts : List Fact) (moment : ℕ) (known : KnownTab) (post : Post) (named : Option UserId)
+    → check_post facts moment known post ≡ Ok named → Current facts moment known post named
+unfolding check_post check_whole
+is_current facts moment known post named h =
+    let first = first_passed (check_code known post.code) _ named h in
+    let second = first_passed (check_whole moment known) _ named first.1 in
+    let third = first_passed (check_user moment known (named_by facts post.form)) _ named second.1 in
+    let fourth = first_passed (check_unfinished known) _ named third.1 in
+    let last : ◌≡◌ {A = Result (Option UserId) Refusal} (Ok (named_by facts post.form)) (Ok named) = fourth.1 in
+    record {
+      code_shown = test_passed (is_code post.code known.state.code) (refusals.Stale known.state.code) first.0;
+      whole = second.0;
+      same = third.0;
+      unfinished = test_failed known.state.completed refusals.Finished fourth.0;
+      is_named = cc;
+    }
+
+-- what check_form found
+pub record Fitting (facts : List Fact) (moment : ℕ) (known : KnownTab) (asked : List Need) (named : Option UserId) (form : Form) (finding : Finding) (check : Check) : Type 0 where
+  pub form_asked : has_need asked form ≡ true
+  pub enabled : check_enabled facts (concerned named (who_of moment known.state)) ≡ Ok tt
+  pub is_check : check_of named (target_of named (who_of moment known.state) form) (password_for facts (target_of named (who_of moment known.state) form)) form finding ≡ check
+
+pub is_fitting : (facts : List Fact) (moment : ℕ) (known : KnownTab) (asked : List Need) (named : Option UserId) (form : Form) (finding : Finding) (check : Check)
+    → check_form facts moment known asked named form finding ≡ Ok check → Fitting facts moment known asked named form finding check
+unfolding check_form
+is_fitting facts moment known asked named form finding check h =
+    let who = who_of moment known.state in
+    let password = password_for facts (target_of named who form) in
+    let first = first_passed (check_asked asked form) _ check h in
+    let second = first_passed (check_enabled facts (concerned named who)) _ check first.1 in
+    let third = first_passed (check_credential password finding) _ check second.1 in
+    let last : ◌≡◌ {A = Result Check Refusal} (Ok (check_of named (target_of named who form) password form finding)) (Ok check) = third.1 in
+    record {
+      form_asked = test_passed (has_need asked form) refusals.NotAsked first.0;
+      enabled = second.0;
+      is_check = cc;
+    }
+
+pub name_fits : (named : Option UserId) (user : UserId) (credential : ℕ) → name_check named ≡ checks.Fits user credential → named ≡ Some user
+name_fits (Some other) user credential h = cc
+name_fits None user credential h = absurd cc
+
+pub password_fits : (target : Option UserId) (password : Option UserPassword) (finding : Finding) (user : UserId) (credential : ℕ)
+    → password_check target password finding ≡ checks.Fits user credential → target ≡ Some user
+unfolding password_check
+password_fits None password finding user credential h = absurd cc
+password_fits (Some other) None finding user credential h = absurd cc
+password_fits (Some other) (Some kept) (findings.Checked had true) user credential h = cc
+password_fits (Some other) (Some kept) (findings.Checked had false) user credential h = absurd cc
+password_fits (Some other) (Some kept) finding user credential h = absurd cc
+
+-- a form that names a user names the one whom its check fits
+fits_named : (facts : List Fact) (who : Option UserId) (password : Option UserPassword) (form : Form) (finding : Finding) (user : UserId) (credential : ℕ)
+    → check_of (named_by facts form) (target_of (named_by facts form) who form) password form finding ≡ checks.Fits user credential → named_by facts form ≡ named_as user form
+fits_named facts who password (forms.Username execution name) finding user credential h = name_fits (account_named name facts) user credential h
+fits_named facts who password (forms.NamePassword execution name given) finding user credential h = password_fits (account_named name facts) password finding user credential h
+fits_named facts who password (forms.Password execution given) finding user credential h = refl
+fits_named facts who password (forms.Value execution value) finding user credential h = refl
+fits_named facts who password forms.Terms finding user credential h = refl
+fits_named facts who password (forms.UpdatePassword given) finding user credential h = refl
+fits_named facts who password (forms.ConfigureOtp value) finding user credential h = refl
+fits_named facts who password forms.RecoveryCodes finding user credential h = refl
+fits_named facts who password forms.VerifyEmail finding user credential h = refl
+
+-- ---- the tab behind the evidence
+
+-- the tab after an accepted post: as before, but for whom the form names, who passed the same checks
+pub record Behind (setting : Setting) (post : Post) (finding : Finding) (accepted : IsAccepted setting post finding) : Type 0 where
+  pub known : IsKnown setting.facts accepted.known
+  pub current : Current setting.facts setting.moment accepted.known post accepted.named
+  pub fitting : Fitting setting.facts setting.moment accepted.known (asked_in (progress_of setting.facts setting.moment accepted.known)) accepted.named post.form finding (checks.Fits accepted.user accepted.credential)
+  pub is_state : tab_state accepted.known.root accepted.known.tab (facts_accepted setting post finding accepted) ≡ with_name accepted.known.state accepted.named
+
+pub behind : (setting : Setting) (post : Post) (finding : Finding) (accepted : IsAccepted setting post finding) → Behind setting post finding accepted
+behind setting post finding accepted =
+    let known = accepted.known in
+    let facts = setting.facts in
+    let is_known = tab_known facts post.root post.tab known accepted.is_known in
+    let current = is_current facts setting.moment known post accepted.named accepted.is_named in
+    let fitting = is_fitting facts setting.moment known (asked_in (progress_of facts setting.moment known)) accepted.named post.form finding (checks.Fits accepted.user accepted.credential) accepted.fits in
+    let who = who_of setting.moment known.state in
+    let check = subst (λ (n : Option UserId). check_of n (target_of n who post.form) (password_for facts (target_of n who post.form)) post.form finding ≡ checks.Fits accepted.user accepted.credential)
+    (sym current.is_named) fitting.is_check in
+    let named = fits_named facts who (password_for facts (target_of (named_by facts post.form) who post.form)) post.form finding accepted.user accepted.credential check in
+    let passing : Passing = record { tab = known.tab; user = accepted.user; credential = accepted.credential; moment = setting.moment } in
+    record {
+      known = is_known;
+      current = current;
+      fitting = fitting;
+      is_state =
+          evidence_state known.root facts passing post.form
+          ∙ ap (λ (s : TabState). with_name s (named_as accepted.user post.form)) (sym is_known.is_state)
+          ∙ ap (with_name known.state) (sym named ∙ current.is_named);
+    }
+
+abbrev pub known_accepted : (setting : Setting) (post : Post) (finding : Finding) → IsAccepted setting post finding → KnownTab
+known_accepted setting post finding accepted = known_over accepted.known (facts_accepted setting post finding accepted)
+
+pub opened_behind : (setting : Setting) (post : Post) (finding : Finding) (accepted : IsAccepted setting post finding)
+    → (tab_state accepted.known.root accepted.known.tab (facts_accepted setting post finding accepted)).opening ≡ Some accepted.known.opening
+opened_behind setting post finding accepted =
+    let b = behind setting post finding accepted in
+    ap (λ (s : TabState). s.opening) b.is_state ∙ ap (λ (s : TabState). s.opening) b.known.is_state ∙ b.known.is_opened
+
+-- it isn't split either
+pub whole_behind : (setting : Setting) (post : Post) (finding : Finding) (accepted : IsAccepted setting post finding)
+    → same_user (known_accepted setting post finding accepted).state.named (user_of (live_session setting.moment (known_accepted setting post finding accepted).state)) ≡ Ok tt
+whole_behind setting post finding accepted =
+    let b = behind setting post finding accepted in
+    let live = live_session setting.moment accepted.known.state in
+    let same = subst (λ (n : Option UserId). same_user n (user_of live) ≡ Ok tt) b.current.is_named b.current.same in
+    let either = same_either accepted.named accepted.known.state.named (user_of live) same b.current.whole in
+    subst (λ (s : TabState). same_user s.named (user_of (live_session setting.moment s)) ≡ Ok tt) (sym b.is_state) either
+
+-- a user whom the progress lets in is ready
+pub progress_ready : (setting : Setting) (post : Post) (finding : Finding) (accepted : IsAccepted setting post finding) (user : UserId)
+    → ready_user (progress_of (facts_accepted setting post finding accepted) setting.moment (known_accepted setting post finding accepted)) ≡ Some user
+    → IsReady (facts_accepted setting post finding accepted) setting.moment accepted.known.root accepted.known.tab user
+unfolding progress_of
+progress_ready setting post finding accepted user h =
+    let b = behind setting post finding accepted in
+    let known = accepted.known in
+    let named = accepted.named in
+    let facts = setting.facts in
+    let more = facts_accepted setting post finding accepted in
+    let now = tab_state known.root known.tab more in
+    let live = live_session setting.moment known.state in
+    let lets = lets_in more known.tab (who_of setting.moment now) (realm_of known.opening.version more) user h in
+    let same = subst (λ (n : Option UserId). same_user n (user_of live) ≡ Ok tt) b.current.is_named b.current.same in
+    let who = concerned_is named known.state.named live same ∙ sym (ap (who_of setting.moment) b.is_state) ∙ lets.is_theirs in
+    let enabled = enabled_is facts user (subst (λ (w : Option UserId). check_enabled facts w ≡ Ok tt) who b.fitting.enabled) in
+    let passing : Passing = record { tab = known.tab; user = accepted.user; credential = accepted.credential; moment = setting.moment } in
+    record {
+      opening = known.opening;
+      is_opened = opened_behind setting post finding accepted;
+      realm = lets.realm;
+      is_realm = lets.is_realm;
+      is_unfinished = ap (λ (s : TabState). s.completed) b.is_state ∙ b.current.unfinished;
+      is_whole = whole_is now.named (live_session setting.moment now) (whole_behind setting post finding accepted);
+      is_theirs = lets.is_theirs;
+      is_enabled = disabled_kept facts passing post.form user ∙ enabled;
+      holds = lets.holds;
+    }
+
+-- ---- posts
+
+-- the post is accepted, and this is what its tab is answered
+pub record Answered (setting : Setting) (post : Post) (finding : Finding) (user : UserId) : Type 0 where
+  pub accepted : IsAccepted setting post finding
+  pub done : ready_user (progress_of (facts_accepted setting post finding accepted) setting.moment (known_accepted setting post finding accepted)) ≡ Some user
+
+check_answered : (setting : Setting) (post : Post) (finding : Finding) (user : UserId) (known : KnownTab) (named : Option UserId) (check : Check)
+    → check_tab setting.facts post.root post.tab ≡ Ok known
+    → check_post setting.facts setting.moment known post ≡ Ok named
+    → check_form setting.facts setting.moment known (asked_in (progress_of setting.facts setting.moment known)) named post.form finding ≡ Ok check
+    → done_for (answer_to_check setting known (asked_in (progress_of setting.facts setting.moment known)) post.form check).reply.what ≡ Some user
+    → Answered setting post finding user
+unfolding answer_to_check answer_to_accepted answer_to_wrong
+check_answered setting post finding user known named (checks.Fits fit credential) is_known is_named fits h =
+    let accepted : IsAccepted setting post finding = record {
+      known = known;
+      is_known = is_known;
+      named = named;
+      is_named = is_named;
+      user = fit;
+      credential = credential;
+      fits = fits;
+    } in
+    let more = facts_accepted setting post finding accepted in
+    record { accepted = accepted; done = sym (tab_done more setting (known_over known more)) ∙ h }
+check_answered setting post finding user known named (checks.Wrong wrong) is_known is_named fits h = absurd cc
+
+pub answered : (setting : Setting) (post : Post) (finding : Finding) (user : UserId) → done_for (due_post setting post finding).reply.what ≡ Some user
+    → Answered setting post finding user
+unfolding due_post post_in post_where
+answered setting post finding user h =
+    let facts = setting.facts in
+    let first = settled_done facts None (post_in setting post finding) (check_tab facts post.root post.tab) user h in
+    let known = first.got in
+    let second = settled_done facts (Some known.tab) (post_by setting post.form finding known) (check_post facts setting.moment known post) user first.done in
+    let asked = asked_in (progress_of facts setting.moment known) in
+    let third = settled_done facts (Some known.tab) (answer_to_check setting known asked post.form) (check_form facts setting.moment known asked second.got post.form finding) user second.done in
+    check_answered setting post finding user known second.got third.got first.is_got second.is_got third.is_got third.done
+
+-- what an accepted post is due
+pub accepted_due : (setting : Setting) (post : Post) (finding : Finding) (accepted : IsAccepted setting post finding)
+    → due_post setting post finding ≡ answer_to_accepted setting accepted.known post.form accepted.user accepted.credential
+unfolding due_post post_in post_where answer_to_check
+accepted_due setting post finding accepted = rw (accepted.is_known, accepted.is_named, accepted.fits) refl
+
+post_ready : (setting : Setting) (post : Post) (finding : Finding) (user : UserId) → done_for (due_post setting post finding).reply.what ≡ Some user
+    → IsReadyAfterPost setting post finding user
+post_ready setting post finding user h =
+    let a = answered setting post finding user h in
+    record { accepted = a.accepted; ready = progress_ready setting post finding a.accepted user a.done }
+
+accepted_answer : (setting : Setting) (post : Post) (finding : Finding) (accepted : IsAccepted setting post finding)
+    → done_for (answer_to_accepted setting accepted.known post.form accepted.user accepted.credential).reply.what
+    ≡ ready_user (progress_of (facts_accepted setting post finding accepted) setting.moment (known_accepted setting post finding accepted))
+unfolding answer_to_accepted
+accepted_answer setting post finding accepted =
+    tab_done (facts_accepted setting post finding accepted) setting (known_accepted setting post finding accepted)
+
+ready_post : (setting : Setting) (post : Post) (finding : Finding) (user : UserId) → IsReadyAfterPost setting post finding user
+    → done_for (due_post setting post finding).reply.what ≡ Some user
+ready_post setting post finding user after =
+    let accepted = after.accepted in
+    let more = facts_accepted setting post finding accepted in
+    rw (accepted_due setting post finding accepted)
+    (accepted_answer setting post finding accepted
+    ∙ ready_progress more setting.moment accepted.known.root accepted.known.tab accepted.known.opening user (opened_behind setting post finding accepted) after.ready)
+
+pub post_done : (setting : Setting) (post : Post) (finding : Finding) (user : UserId)
+    → done_for (due_post setting post finding).reply.what ≡ Some user ↔ IsReadyAfterPost setting post finding user
+post_done setting post finding user = (λ h. post_ready setting post finding user h, λ after. ready_post setting post finding user after)

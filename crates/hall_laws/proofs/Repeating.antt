@@ -1,0 +1,408 @@
+-- An accepted post that comes again is refused, and adds nothing.
+use Rattle.std.proofs.Common.{◌≡◌, ℕ, ◌<◌, ◌≤◌, Bool, true, false, List, [], ◌∷◌, ◌++◌, Some, None, refl, sym, ap, subst, ◌∙◌, append_assoc, arith}
+use Rattle.std.specs.Prelude.{Option, Result, Ok, Err, is_some, fold, if◌then◌else◌}
+use Rattle.std.specs.Option.{option_or}
+use Rattle.std.proofs.lemmas.List.{append-nil}
+use Rattle.std.proofs.lemmas.Bool.{eq-eqb}
+use Rattle.login_base.specs.IdText.{same_id}
+use Rattle.login_base.specs.declared.id.Code.{Code}
+use Rattle.login_base.specs.declared.id.RootKey.{RootKey}
+use Rattle.login_base.specs.declared.id.SessionId.{SessionId}
+use Rattle.login_base.specs.declared.id.TabKey.{TabKey}
+use Rattle.login_base.specs.declared.id.UserId.{UserId}
+use Rattle.facts.specs.declared.ask.Form.{Form}
+use Rattle.facts.specs.declared.ask.Form.TheVariants as forms
+use Rattle.facts.specs.declared.ask.Post.{Post}
+use Rattle.facts.specs.declared.fact.Fact.{Fact}
+use Rattle.facts.specs.declared.fact.Fact.TheVariants as events
+use Rattle.facts.specs.declared.finding.Finding.{Finding}
+use Rattle.facts.specs.declared.tabs.Opening.{Opening}
+use Rattle.facts.specs.declared.tabs.RootSession.{RootSession}
+use Rattle.facts.specs.declared.tabs.TabState.{TabState}
+use Rattle.facts.specs.Accounts.{put_as, account_named}
+use Rattle.facts.specs.Places.{last_of}
+use Rattle.facts.specs.Serials.{last_tab_serial}
+use Rattle.facts.specs.Tabs.{tab_state, tab_after, session_after, is_live, live_among, live_session, user_among, who_of}
+use Rattle.facts.proofs.PlacesLemmas.{last_of_append}
+use Rattle.facts.proofs.SerialLemmas.{last_tab_serial_more}
+use Rattle.hall_answers.specs.declared.answer.Answer.{Answer}
+use Rattle.hall_answers.specs.declared.refusal.Refusal.{Refusal}
+use Rattle.hall_answers.specs.declared.refusal.Refusal.TheVariants as refusals
+use Rattle.hall_answers.specs.Ids.{next_code, next_session}
+use Rattle.hall_answers.specs.Refusals.{◌>>=◌, what_of, settled}
+use Rattle.hall_answers.specs.Setting.{Setting}
+use Rattle.login_progress.specs.declared.known_tab.KnownTab.{KnownTab}
+use Rattle.login_progress.specs.declared.progress.Progress.{Progress}
+use Rattle.login_progress.specs.declared.progress.Progress.TheVariants as progresses
+use Rattle.login_progress.specs.PasswordFor.{password_for}
+use Rattle.login_progress.specs.Progress.{progress_of, asked_in}
+use Rattle.tab_asks.specs.declared.check.Check.TheVariants as checks
+use Rattle.tab_asks.specs.declared.passing.Passing.{Passing}
+use Rattle.tab_asks.specs.Forms.{named_by, target_of, evidence_of}
+use Rattle.tab_asks.specs.Pages.{page_fact, session_for, session_fact, completion, progress_answer, tab_answer}
+use Rattle.tab_asks.specs.Post.{is_code, check_code, check_user, check_post, has_need, check_form, check_of, known_over, evidence_by, answer_to_accepted, answer_to_check, post_where, post_by, post_in, due_post}
+use Rattle.tab_asks.specs.Visit.{tab_in, tab_with, check_tab, check_whole, check_unfinished, user_of, same_user}
+use Rattle.hall_laws.specs.Ready.{IsAccepted, facts_accepted, done_for}
+use Rattle.hall_laws.specs.Repeats.{HasCodesCounted, is_repeat_refusal, IsRepeatRefused, refused_as_finished}
+use Rattle.hall_laws.proofs.Codes.{IsBelow, last_below, shown_at_most, other_code}
+use Rattle.hall_laws.proofs.PostReadiness.{Current, is_current, behind, accepted_due, answered, known_accepted, opened_behind, whole_behind}
+use Rattle.hall_laws.proofs.Readiness.{known_at, ready_user, lets_in}
+use Rattle.hall_laws.proofs.TabStates.{same_id-same, more_state, with_name}
+use Rattle.hall_laws.proofs.Unasked.{IsPostOf, fits_post_of, form_lacks}
+
+-- ---- what the checks of a post refuse, they refuse as a repeat
+
+abbrev gate : {A : Type 0} → List Fact → Result A Refusal → Bool
+gate facts (Ok x) = true
+gate facts (Err refusal) = is_repeat_refusal (what_of facts refusal)
+
+first_gate : {A B : Type 0} (facts : List Fact) (first : Result A Refusal) (more : A → Result B Refusal) → gate facts first ≡ true → ((x : A) → gate facts (more x) ≡ true)
+    → gate facts (first >>= more) ≡ true
+first_gate facts (Ok x) more h rest = rest x
+first_gate facts (Err refusal) more h rest = h
+
+code_gate : (facts : List Fact) (shown : Bool) (current : Option Code) → gate {A = Unit {0}} facts (if shown then Ok tt else Err (refusals.Stale current)) ≡ true
+code_gate facts true current = refl
+code_gate facts false current = refl
+
+one_gate : (facts : List Fact) (same : Bool) (user own : UserId) → gate {A = Unit {0}} facts (if same then Ok tt else Err (refusals.OtherUser user own)) ≡ true
+one_gate facts true user own = refl
+one_gate facts false user own = refl
+
+user_gate : (facts : List Fact) (named own : Option UserId) → gate facts (same_user named own) ≡ true
+user_gate facts (Some user) (Some own) = one_gate facts _ user own
+user_gate facts (Some user) None = refl
+user_gate facts None own = refl
+
+finished_gate : (facts : List Fact) (completed : Bool) → gate {A = Unit {0}} facts (if completed then Err refusals.Finished else Ok tt) ≡ true
+finished_gate facts true = refl
+finished_gate facts false = refl
+
+post_gate : (facts : List Fact) (moment : ℕ) (known : KnownTab) (post : Post) → gate facts (check_post facts moment known post) ≡ true
+unfolding check_post check_whole
+post_gate facts moment known post =
+    let own = user_of (live_session moment known.state) in
+    first_gate facts (check_code known post.code) _ (code_gate facts (is_code post.code known.state.code) known.state.code) (λ current.
+    first_gate facts (check_whole moment known) _ (user_gate facts known.state.named own) (λ whole.
+    first_gate facts (check_user moment known (named_by facts post.form)) _ (user_gate facts (named_by facts post.form) own) (λ same.
+    first_gate facts (check_unfinished known) _ (finished_gate facts known.state.completed) (λ unfinished. refl))))
+
+-- ---- the answer
+
+pub record IsRefused (tab : TabKey) (answer : Answer) : Type 0 where
+  pub reply : IsRepeatRefused tab answer.reply
+  pub added : answer.added ≡ []
+
+settled_refused : {A : Type 0} (facts : List Fact) (tab : TabKey) (answer : A → Answer) (result : Result A Refusal) → gate facts result ≡ true
+    → ((x : A) → result ≡ Ok x → IsRefused tab (answer x)) → IsRefused tab (settled facts (Some tab) answer result)
+settled_refused facts tab answer (Ok x) h rest = rest x refl
+settled_refused facts tab answer (Err refusal) h rest = record { reply = record { in_its_tab = refl; refusal = h }; added = refl }
+
+not_asked : (setting : Setting) (post : Post) (finding : Finding) (known : KnownTab) (named : Option UserId)
+    → has_need (asked_in (progress_of setting.facts setting.moment known)) post.form ≡ false → IsRefused known.tab (post_by setting post.form finding known named)
+unfolding post_where check_form
+not_asked setting post finding known named h = rw h (record { reply = record { in_its_tab = refl; refusal = refl }; added = refl })
+
+again_in : (later : Setting) (post : Post) (finding : Finding) (known : KnownTab) → check_tab later.facts post.root post.tab ≡ Ok known
+    → ((named : Option UserId) → Current later.facts later.moment known post named → has_need (asked_in (progress_of later.facts later.moment known)) post.form ≡ false)
+    → IsRefused known.tab (due_post later post finding)
+unfolding due_post post_in
+again_in later post finding known is_known lacks =
+    let checked = check_post later.facts later.moment known post in
+    subst (λ (found : Result KnownTab Refusal). IsRefused known.tab (settled later.facts None (post_in later post finding) found)) (sym is_known)
+    (settled_refused later.facts known.tab (post_by later post.form finding known) checked (post_gate later.facts later.moment known post) (λ named is.
+    not_asked later post finding known named (lacks named (is_current later.facts later.moment known post named is))))
+
+-- ---- the tab later
+
+found_opening : (facts later : List Fact) (root : RootKey) (tab : TabKey) (known : KnownTab) (found : Option Opening) → tab_with root tab (tab_state root tab facts) found ≡ Ok known
+    → (tab_state known.root known.tab later).opening ≡ Some known.opening
+    → tab_with root tab (tab_state root tab later) (tab_state root tab later).opening ≡ Ok (known_over known later)
+found_opening facts later root tab known (Some opening) h is_opened =
+    let e : known_at root tab opening facts ≡ known = cc in
+    subst (λ (k : KnownTab). (tab_state k.root k.tab later).opening ≡ Some k.opening → tab_with root tab (tab_state root tab later) (tab_state root tab later).opening ≡ Ok (known_over k later)) e
+    (λ o. ap (tab_with root tab (tab_state root tab later)) o) is_opened
+found_opening facts later root tab known None h is_opened = absurd cc
+
+found_later : (facts later : List Fact) (root : Option RootKey) (tab : TabKey) (known : KnownTab) → check_tab facts root tab ≡ Ok known
+    → (tab_state known.root known.tab later).opening ≡ Some known.opening → check_tab later root tab ≡ Ok (known_over known later)
+unfolding check_tab tab_in
+found_later facts later (Some root) tab known h is_opened = found_opening facts later root tab known (tab_state root tab facts).opening h is_opened
+found_later facts later None tab known h is_opened = absurd cc
+
+tab_is_with : (facts : List Fact) (root : RootKey) (tab : TabKey) (known : KnownTab) (found : Option Opening) → tab_with root tab (tab_state root tab facts) found ≡ Ok known → known.tab ≡ tab
+tab_is_with facts root tab known (Some opening) h =
+    let e : known_at root tab opening facts ≡ known = cc in
+    sym (ap (λ (k : KnownTab). k.tab) e)
+tab_is_with facts root tab known None h = absurd cc
+
+tab_is : (facts : List Fact) (root : Option RootKey) (tab : TabKey) (known : KnownTab) → check_tab facts root tab ≡ Ok known → known.tab ≡ tab
+unfolding check_tab tab_in
+tab_is facts (Some root) tab known h = tab_is_with facts root tab known (tab_state root tab facts).opening h
+tab_is facts None tab known h = absurd cc
+
+-- ---- what a completion leaves
+
+abbrev completion_facts : RootKey → TabKey → Setting → SessionId → UserId → Bool → List Fact
+completion_facts root tab setting session user seen = session_fact setting session root user seen ∷ events.Completed tab user session setting.moment ∷ []
+
+abbrev with_session : TabState → Option RootSession → TabState
+with_session state own = record state { completed = true; session = own }
+
+completed_state : (root : RootKey) (tab : TabKey) (setting : Setting) (session : SessionId) (user : UserId) (seen : Bool) (state : TabState)
+    → fold (tab_after root tab) state (completion_facts root tab setting session user seen) ≡ with_session state (session_after root state.session (session_fact setting session root user seen))
+completed_state root tab setting session user true state = rw (same_id-same tab.0) refl
+completed_state root tab setting session user false state = rw (same_id-same tab.0) refl
+
+user_same : (user : UserId) → same_user (Some user) (Some user) ≡ Ok tt
+user_same user = rw (eq-eqb user.0 user.0 refl) refl
+
+live_user : (live : Bool) (own : RootSession) (named : Option UserId) → same_user named (Some own.user) ≡ Ok tt → same_user named (user_of (if live then Some own else None)) ≡ Ok tt
+live_user true own named h = h
+live_user false own None h = refl
+live_user false own (Some user) h = refl
+
+taken : (live : Bool) (own found : RootSession) → ◌≡◌ {A = Option RootSession} (if live then Some own else None) (Some found) → own ≡ found
+taken true own found h = cc
+taken false own found h = absurd cc
+
+abbrev seen_now : Bool → ℕ → RootSession → RootSession
+seen_now same moment own = if same then record own { seen = moment } else own
+
+seen_user : (same : Bool) (moment : ℕ) (own : RootSession) → (seen_now same moment own).user ≡ own.user
+seen_user true moment own = refl
+seen_user false moment own = refl
+
+-- the session that a completion leaves, and that the user that was named last is its user
+record Kept (own : Option RootSession) (named : Option UserId) : Type 0 where
+  session : RootSession
+  is : own ≡ Some session
+  fits : same_user named (Some session.user) ≡ Ok tt
+
+session_kept : (facts : List Fact) (root : RootKey) (setting : Setting) (user : UserId) (own live : Option RootSession) (named : Option UserId)
+    → live_among setting.moment own ≡ live → same_user named (user_of live) ≡ Ok tt → user_among live named ≡ Some user
+    → Kept (session_after root own (session_fact setting (session_for facts setting.draws live) root user (is_some live))) named
+session_kept facts root setting user None (Some found) named is same who = absurd cc
+session_kept facts root setting user (Some own) (Some found) named is same who =
+    let e = taken (is_live setting.moment own) own found is in
+    let here = same_id own.session.0 found.session.0 in
+    record {
+      session = seen_now here setting.moment own;
+      is = refl;
+      fits = subst (λ (u : UserId). same_user named (Some u) ≡ Ok tt) (sym (seen_user here setting.moment own ∙ ap (λ (o : RootSession). o.user) e)) same;
+    }
+session_kept facts root setting user own None named is same who =
+    record {
+      session = record { session = next_session facts setting.draws; user = user; opened = setting.moment; seen = setting.moment; idle = setting.realm.session.idle; max = setting.realm.session.max };
+      is = rw (same_id-same root.0) refl;
+      fits = subst (λ (n : Option UserId). same_user n (Some user) ≡ Ok tt) (sym who) (user_same user);
+    }
+
+-- ---- no account is put by a post
+
+account_kept : (name : List ℕ) (old more : List Fact) → last_of (put_as name) more ≡ None → account_named name (old ++ more) ≡ account_named name old
+unfolding account_named
+account_kept name old more h = last_of_append (put_as name) old more ∙ ap (λ (o : Option UserId). option_or o (last_of (put_as name) old)) h
+
+named_kept : (form : Form) (old more : List Fact) → ((name : List ℕ) → last_of (put_as name) more ≡ None) → named_by (old ++ more) form ≡ named_by old form
+named_kept (forms.Username execution name) old more h = account_kept name old more (h name)
+named_kept (forms.NamePassword execution name password) old more h = account_kept name old more (h name)
+named_kept (forms.Password execution password) old more h = refl
+named_kept (forms.Value execution value) old more h = refl
+named_kept forms.Terms old more h = refl
+named_kept (forms.UpdatePassword password) old more h = refl
+named_kept (forms.ConfigureOtp value) old more h = refl
+named_kept forms.RecoveryCodes old more h = refl
+named_kept forms.VerifyEmail old more h = refl
+
+evidence_puts : (passing : Passing) (form : Form) (name : List ℕ) → last_of (put_as name) (evidence_of passing form) ≡ None
+evidence_puts passing (forms.Username execution other) name = refl
+evidence_puts passing (forms.NamePassword execution other password) name = refl
+evidence_puts passing (forms.Password execution password) name = refl
+evidence_puts passing (forms.Value execution value) name = refl
+evidence_puts passing forms.Terms name = refl
+evidence_puts passing (forms.UpdatePassword password) name = refl
+evidence_puts passing (forms.ConfigureOtp value) name = refl
+evidence_puts passing forms.RecoveryCodes name = refl
+evidence_puts passing forms.VerifyEmail name = refl
+
+completion_puts : (root : RootKey) (tab : TabKey) (setting : Setting) (session : SessionId) (user : UserId) (seen : Bool) (name : List ℕ) → last_of (put_as name) (completion_facts root tab setting session user seen) ≡ None
+completion_puts root tab setting session user true name = refl
+completion_puts root tab setting session user false name = refl
+
+same_named : (named first : Option UserId) (own : UserId) → same_user (option_or named first) (Some own) ≡ Ok tt → same_user named (Some own) ≡ Ok tt
+same_named (Some user) first own same = same
+same_named None first own same = refl
+
+-- ---- an accepted post, and the same post later
+
+finished_check : (facts : List Fact) (moment : ℕ) (known : KnownTab) (post : Post) → is_code post.code known.state.code ≡ true → check_whole moment known ≡ Ok tt
+    → check_user moment known (named_by facts post.form) ≡ Ok tt → known.state.completed ≡ true → check_post facts moment known post ≡ Err refusals.Finished
+unfolding check_post
+finished_check facts moment known post code_shown whole same completed = rw (code_shown, whole, same, completed) refl
+
+finished_due : (later : Setting) (post : Post) (finding : Finding) (known : KnownTab) → check_tab later.facts post.root post.tab ≡ Ok known
+    → check_post later.facts later.moment known post ≡ Err refusals.Finished → due_post later post finding ≡ refused_as_finished known.tab
+unfolding due_post post_in
+finished_due later post finding known is_known finished = rw (is_known, finished) refl
+
+finished_answer : (tab : TabKey) (answer : Answer) → answer ≡ refused_as_finished tab → IsRefused tab answer
+finished_answer tab answer h = subst (IsRefused tab) (sym h) (record { reply = record { in_its_tab = refl; refusal = refl }; added = refl })
+
+abbrev with_code : TabState → Code → TabState
+with_code state code = record state { code = Some code }
+
+evidence_serial : (old : List Fact) (passing : Passing) (form : Form) → last_tab_serial (old ++ evidence_of passing form) ≡ last_tab_serial old
+evidence_serial old passing (forms.Username execution name) = last_tab_serial_more old (evidence_of passing (forms.Username execution name))
+evidence_serial old passing (forms.NamePassword execution name password) = last_tab_serial_more old (evidence_of passing (forms.NamePassword execution name password))
+evidence_serial old passing (forms.Password execution password) = last_tab_serial_more old (evidence_of passing (forms.Password execution password))
+evidence_serial old passing (forms.Value execution value) = last_tab_serial_more old []
+evidence_serial old passing forms.Terms = last_tab_serial_more old []
+evidence_serial old passing (forms.UpdatePassword password) = last_tab_serial_more old []
+evidence_serial old passing (forms.ConfigureOtp value) = last_tab_serial_more old []
+evidence_serial old passing forms.RecoveryCodes = last_tab_serial_more old []
+evidence_serial old passing forms.VerifyEmail = last_tab_serial_more old []
+
+module _ (setting : Setting) (post : Post) (finding : Finding) (accepted : IsAccepted setting post finding) (later : Setting) (later_finding : Finding) where
+  abbrev more : List Fact
+  more = facts_accepted setting post finding accepted
+
+  abbrev now : KnownTab
+  now = known_accepted setting post finding accepted
+
+  abbrev after : KnownTab
+  after = known_over accepted.known later.facts
+
+  opening_later : (extra : List Fact) (state : TabState) → later.facts ≡ more ++ extra → fold (tab_after accepted.known.root accepted.known.tab) now.state extra ≡ state
+      → after.state ≡ state
+  opening_later extra state next is =
+      ap (tab_state accepted.known.root accepted.known.tab) next ∙ more_state accepted.known.root accepted.known.tab more extra ∙ is
+
+  known_later : (state : TabState) → after.state ≡ state → state.opening ≡ now.state.opening → check_tab later.facts post.root post.tab ≡ Ok after
+  known_later state is same =
+      found_later setting.facts later.facts post.root post.tab accepted.known accepted.is_known
+      (ap (λ (s : TabState). s.opening) is ∙ same ∙ opened_behind setting post finding accepted)
+
+  -- the code was one that the facts count
+  code_counted : HasCodesCounted setting.facts → post.code.0.serial ≤ last_tab_serial more
+  code_counted counted =
+      let known = accepted.known in
+      let b = behind setting post finding accepted in
+      let below = subst (λ (s : TabState). IsBelow (last_tab_serial setting.facts) s.code) (sym b.known.is_state) (last_below known.root known.tab setting.facts counted) in
+      let least = shown_at_most post.code known.state.code (last_tab_serial setting.facts) b.current.code_shown below in
+      let passing : Passing = record { tab = known.tab; user = accepted.user; credential = accepted.credential; moment = setting.moment } in
+      let same = evidence_serial setting.facts passing post.form in
+      subst (λ (n : ℕ). post.code.0.serial ≤ n) (sym same) least
+
+  -- a page was shown, with a new code
+  again_shown : HasCodesCounted setting.facts → later.facts ≡ more ++ page_fact accepted.known.tab (next_code more setting.draws) ∷ []
+      → IsRefused accepted.known.tab (due_post later post later_finding)
+  again_shown counted next =
+      let code = next_code more setting.draws in
+      let state = with_code now.state code in
+      let folded : fold (tab_after accepted.known.root accepted.known.tab) now.state (page_fact accepted.known.tab code ∷ []) ≡ state = rw (same_id-same accepted.known.tab.0) refl in
+      let is = opening_later (page_fact accepted.known.tab code ∷ []) state next folded in
+      let least = code_counted counted in
+      let other : is_code post.code (Some code) ≡ false = other_code post.code code (omega (arith, least)) in
+      again_in later post later_finding after (known_later state is refl)
+      (λ named current. let shown : is_code post.code (Some code) ≡ true = sym (ap (λ (s : TabState). is_code post.code s.code) is) ∙ current.code_shown in absurd cc)
+
+  post_of : IsPostOf accepted.user setting.moment now.state post.form
+  post_of =
+      let known = accepted.known in
+      let b = behind setting post finding accepted in
+      let who = who_of setting.moment known.state in
+      let form = post.form in
+      let check = subst (λ (n : Option UserId). check_of n (target_of n who form) (password_for setting.facts (target_of n who form)) form finding ≡ checks.Fits accepted.user accepted.credential)
+      (sym b.current.is_named) b.fitting.is_check in
+      let target = target_of (named_by setting.facts form) who form in
+      let of = fits_post_of setting.facts setting.moment known.state (password_for setting.facts target) form finding accepted.user accepted.credential check in
+      let named = subst (λ (n : Option UserId). IsPostOf accepted.user setting.moment (with_name known.state n) form) b.current.is_named of in
+      subst (λ (s : TabState). IsPostOf accepted.user setting.moment s form) (sym b.is_state) named
+
+  -- nothing was added behind the evidence
+  again_blocked : asked_in (progress_of more setting.moment now) ≡ [] → later.facts ≡ more ++ [] → IsRefused accepted.known.tab (due_post later post later_finding)
+  again_blocked nothing next =
+      let is_more : later.facts ≡ more = next ∙ append-nil more in
+      let lacks = subst (λ (facts : List Fact). (named : Option UserId) → Current facts later.moment (known_over accepted.known facts) post named
+      → has_need (asked_in (progress_of facts later.moment (known_over accepted.known facts))) post.form ≡ false) (sym is_more)
+      (λ named current. form_lacks more setting.moment later.moment now accepted.user post.form post_of (whole_behind setting post finding accepted) nothing current.whole) in
+      again_in later post later_finding after (known_later now.state (opening_later [] now.state next refl) refl) lacks
+
+  -- the login completed
+  again_completed : (user : UserId) → progress_of more setting.moment now ≡ progresses.Ready user → later.facts ≡ more ++ (completion more setting now user).added
+      → due_post later post later_finding ≡ refused_as_finished accepted.known.tab
+  unfolding completion check_whole progress_of
+  again_completed user is next =
+      let known = accepted.known in
+      let b = behind setting post finding accepted in
+      let live = live_session setting.moment now.state in
+      let session = session_for more setting.draws live in
+      let added = completion_facts known.root known.tab setting session user (is_some live) in
+      let who = (lets_in more known.tab (who_of setting.moment now.state) _ user (ap ready_user is)).is_theirs in
+      let kept = session_kept more known.root setting user now.state.session live now.state.named refl (whole_behind setting post finding accepted) who in
+      let state = with_session now.state (Some kept.session) in
+      let folded = completed_state known.root known.tab setting session user (is_some live) now.state ∙ ap (with_session now.state) kept.is in
+      let is_state = opening_later added state next folded in
+      let passing : Passing = record { tab = known.tab; user = accepted.user; credential = accepted.credential; moment = setting.moment } in
+      let names =
+      ap (λ (facts : List Fact). named_by facts post.form) next
+      ∙ named_kept post.form more added (λ name. completion_puts known.root known.tab setting session user (is_some live) name)
+      ∙ named_kept post.form setting.facts (evidence_of passing post.form) (λ name. evidence_puts passing post.form name)
+      ∙ b.current.is_named in
+      let fits = subst (λ (s : TabState). same_user s.named (Some kept.session.user) ≡ Ok tt) b.is_state kept.fits in
+      let named_fits = same_named accepted.named known.state.named kept.session.user fits in
+      let code_shown = ap (λ (s : TabState). is_code post.code s.code) (is_state ∙ ap (λ (s : TabState). with_session s (Some kept.session)) b.is_state) ∙ b.current.code_shown in
+      let whole = subst (λ (s : TabState). same_user s.named (user_of (live_session later.moment s)) ≡ Ok tt) (sym is_state) (live_user (is_live later.moment kept.session) kept.session now.state.named kept.fits) in
+      let same_live = live_user (is_live later.moment kept.session) kept.session accepted.named named_fits in
+      let same_state = subst (λ (s : TabState). same_user accepted.named (user_of (live_session later.moment s)) ≡ Ok tt) (sym is_state) same_live in
+      let same = subst (λ (n : Option UserId). same_user n (user_of (live_session later.moment after.state)) ≡ Ok tt) (sym names) same_state in
+      let completed = ap (λ (s : TabState). s.completed) is_state in
+      finished_due later post later_finding after (known_later state is_state refl) (finished_check later.facts later.moment after post code_shown whole same completed)
+
+  again_of_progress : (progress : Progress) → progress_of more setting.moment now ≡ progress → HasCodesCounted setting.facts
+      → later.facts ≡ more ++ (progress_answer more setting now progress).added → IsRefused accepted.known.tab (due_post later post later_finding)
+  unfolding progress_answer
+  again_of_progress (progresses.Ready user) is counted next = finished_answer accepted.known.tab _ (again_completed user is next)
+  again_of_progress (progresses.Asked asked) is counted next = again_shown counted next
+  again_of_progress (progresses.Denied execution) is counted next = again_blocked (ap asked_in is) next
+  again_of_progress (progresses.NotConfigured execution) is counted next = again_blocked (ap asked_in is) next
+  again_of_progress progresses.DeadEnd is counted next = again_blocked (ap asked_in is) next
+
+  -- what the facts are later
+  facts_later : later.facts ≡ setting.facts ++ (due_post setting post finding).added → later.facts ≡ more ++ (tab_answer more setting now).added
+  unfolding answer_to_accepted
+  facts_later next =
+      let evidence = evidence_by setting accepted.known post.form accepted.user accepted.credential in
+      next ∙ ap (λ (a : Answer). setting.facts ++ a.added) (accepted_due setting post finding accepted)
+      ∙ sym (append_assoc setting.facts evidence (tab_answer more setting now).added)
+
+  again : HasCodesCounted setting.facts → later.facts ≡ setting.facts ++ (due_post setting post finding).added → IsRefused accepted.known.tab (due_post later post later_finding)
+  unfolding tab_answer
+  again counted next = again_of_progress (progress_of more setting.moment now) refl counted (facts_later next)
+
+  pub again_refused : HasCodesCounted setting.facts → later.facts ≡ setting.facts ++ (due_post setting post finding).added → IsRefused post.tab (due_post later post later_finding)
+  again_refused counted next =
+      subst (λ (tab : TabKey). IsRefused tab (due_post later post later_finding)) (tab_is setting.facts post.root post.tab accepted.known accepted.is_known) (again counted next)
+
+  ready_is : (progress : Progress) (user : UserId) → ready_user progress ≡ Some user → progress ≡ progresses.Ready user
+  ready_is (progresses.Ready found) user h = cc
+  ready_is (progresses.Asked asked) user h = absurd cc
+  ready_is (progresses.Denied execution) user h = absurd cc
+  ready_is (progresses.NotConfigured execution) user h = absurd cc
+  ready_is progresses.DeadEnd user h = absurd cc
+
+  pub ready_again : (user : UserId) → ready_user (progress_of more setting.moment now) ≡ Some user
+      → later.facts ≡ setting.facts ++ (due_post setting post finding).added → due_post later post later_finding ≡ refused_as_finished post.tab
+  unfolding tab_answer progress_answer
+  ready_again user ready next =
+      let is = ready_is (progress_of more setting.moment now) user ready in
+      let added = ap (λ (p : Progress). more ++ (progress_answer more setting now p).added) is in
+      again_completed user is (facts_later next ∙ added) ∙ ap refused_as_finished (tab_is setting.facts post.root post.tab accepted.known accepted.is_known)
+
+pub done_again : (setting : Setting) (post : Post) (finding : Finding) (user : UserId) (later : Setting) (later_finding : Finding)
+    → done_for (due_post setting post finding).reply.what ≡ Some user → later.facts ≡ setting.facts ++ (due_post setting post finding).added
+    → due_post later post later_finding ≡ refused_as_finished post.tab
+done_again setting post finding user later later_finding h next =
+    let a = answered setting post finding user h in
+    ready_again setting post finding a.accepted later later_finding user a.done next

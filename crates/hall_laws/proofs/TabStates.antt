@@ -1,0 +1,87 @@
+-- What is known of a tab behind more facts.
+use Rattle.std.proofs.Common.{◌≡◌, ℕ, true, List, [], ◌∷◌, ◌++◌, Some, None, refl, sym, ap, ◌∙◌}
+use Rattle.std.specs.Prelude.{Option, fold}
+use Rattle.std.specs.Option.{option_or}
+use Rattle.std.proofs.lemmas.Bool.{eq-eqb}
+use Rattle.login_base.specs.IdText.{same_id}
+use Rattle.login_base.specs.declared.id.Id.{Id}
+use Rattle.login_base.specs.declared.id.RootKey.{RootKey}
+use Rattle.login_base.specs.declared.id.TabKey.{TabKey}
+use Rattle.login_base.specs.declared.id.UserId.{UserId}
+use Rattle.facts.specs.declared.ask.Form.{Form}
+use Rattle.facts.specs.declared.ask.Form.TheVariants as forms
+use Rattle.facts.specs.declared.fact.Fact.{Fact}
+use Rattle.facts.specs.declared.tabs.TabState.{TabState}
+use Rattle.facts.specs.Accounts.{disabled_by, is_disabled}
+use Rattle.facts.specs.Places.{last_of}
+use Rattle.facts.specs.Tabs.{tab_state, tab_after}
+use Rattle.facts.proofs.PlacesLemmas.{last_of_append}
+use Rattle.facts.proofs.TabLemmas.{tab_state_more}
+use Rattle.hall_answers.specs.Setting.{Setting}
+use Rattle.tab_asks.specs.declared.passing.Passing.{Passing}
+use Rattle.tab_asks.specs.Forms.{evidence_of}
+use Rattle.tab_asks.specs.NewTab.{facts_opened, opening_at, opening_fact, new_root_key, new_tab_key}
+
+pub same_id-same : (a : Id) → same_id a a ≡ true
+same_id-same a = rw (eq-eqb a.serial a.serial refl, eq-eqb a.high a.high refl, eq-eqb a.low a.low refl) refl
+
+pub more_state : (root : RootKey) (tab : TabKey) (old more : List Fact) → tab_state root tab (old ++ more) ≡ fold (tab_after root tab) (tab_state root tab old) more
+more_state root tab old more = sym (tab_state_more root tab (tab_state root tab old) old more refl)
+
+-- ---- behind its opening
+
+pub opened_state : (setting : Setting) (level : ℕ)
+    → (tab_state (new_root_key setting) (new_tab_key setting) (facts_opened setting level)).opening ≡ Some (opening_at setting level)
+opened_state setting level =
+    ap (λ (s : TabState). s.opening) (more_state (new_root_key setting) (new_tab_key setting) setting.facts (opening_fact setting level ∷ []))
+    ∙ rw (same_id-same (new_root_key setting).0, same_id-same (new_tab_key setting).0) refl
+
+-- ---- behind the evidence of a form
+
+-- whom the evidence of a form names
+abbrev pub named_as : UserId → Form → Option UserId
+named_as user (forms.Username execution name) = Some user
+named_as user (forms.NamePassword execution name password) = Some user
+named_as user (forms.Password execution password) = None
+named_as user (forms.Value execution value) = None
+named_as user forms.Terms = None
+named_as user (forms.UpdatePassword password) = None
+named_as user (forms.ConfigureOtp value) = None
+named_as user forms.RecoveryCodes = None
+named_as user forms.VerifyEmail = None
+
+abbrev pub with_name : TabState → Option UserId → TabState
+with_name state user = record state { named = option_or user state.named }
+
+pub evidence_state : (root : RootKey) (old : List Fact) (passing : Passing) (form : Form)
+    → tab_state root passing.tab (old ++ evidence_of passing form) ≡ with_name (tab_state root passing.tab old) (named_as passing.user form)
+evidence_state root old passing (forms.Username execution name) =
+    more_state root passing.tab old (evidence_of passing (forms.Username execution name)) ∙ rw (same_id-same passing.tab.0) refl
+evidence_state root old passing (forms.NamePassword execution name password) =
+    more_state root passing.tab old (evidence_of passing (forms.NamePassword execution name password)) ∙ rw (same_id-same passing.tab.0) refl
+evidence_state root old passing (forms.Password execution password) = more_state root passing.tab old (evidence_of passing (forms.Password execution password))
+evidence_state root old passing (forms.Value execution value) = more_state root passing.tab old []
+evidence_state root old passing forms.Terms = more_state root passing.tab old []
+evidence_state root old passing (forms.UpdatePassword password) = more_state root passing.tab old []
+evidence_state root old passing (forms.ConfigureOtp value) = more_state root passing.tab old []
+evidence_state root old passing forms.RecoveryCodes = more_state root passing.tab old []
+evidence_state root old passing forms.VerifyEmail = more_state root passing.tab old []
+
+-- evidence neither disables nor enables a user
+none_disabled : (passing : Passing) (form : Form) (user : UserId) → last_of (disabled_by user) (evidence_of passing form) ≡ None
+none_disabled passing (forms.Username execution name) user = refl
+none_disabled passing (forms.NamePassword execution name password) user = refl
+none_disabled passing (forms.Password execution password) user = refl
+none_disabled passing (forms.Value execution value) user = refl
+none_disabled passing forms.Terms user = refl
+none_disabled passing (forms.UpdatePassword password) user = refl
+none_disabled passing (forms.ConfigureOtp value) user = refl
+none_disabled passing forms.RecoveryCodes user = refl
+none_disabled passing forms.VerifyEmail user = refl
+
+pub disabled_kept : (old : List Fact) (passing : Passing) (form : Form) (user : UserId) → is_disabled user (old ++ evidence_of passing form) ≡ is_disabled user old
+unfolding is_disabled
+disabled_kept old passing form user =
+    let e = last_of_append (disabled_by user) old (evidence_of passing form) in
+    let n = none_disabled passing form user in
+    rw (e, n) refl

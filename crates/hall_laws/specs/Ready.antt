@@ -1,0 +1,90 @@
+-- When a login is ready, and which asks complete it.
+use Rattle.std.specs.Prelude.{◌≡◌, ℕ, true, false, List, ◌++◌, Option, Some, None, Ok}
+use Rattle.login_base.specs.declared.id.RootKey.{RootKey}
+use Rattle.login_base.specs.declared.id.TabKey.{TabKey}
+use Rattle.login_base.specs.declared.id.UserId.{UserId}
+use Rattle.flow_tree.specs.Flow.{flow_holds}
+use Rattle.realm_data.specs.declared.realm_parts.RealmParts.{RealmParts}
+use Rattle.facts.specs.declared.ask.NewTab.{NewTab}
+use Rattle.facts.specs.declared.ask.Post.{Post}
+use Rattle.facts.specs.declared.fact.Fact.{Fact}
+use Rattle.facts.specs.declared.finding.Finding.{Finding}
+use Rattle.facts.specs.declared.reply.Need.{Need}
+use Rattle.facts.specs.declared.reply.What.{What}
+use Rattle.facts.specs.declared.reply.What.TheVariants as whats
+use Rattle.facts.specs.declared.tabs.Opening.{Opening}
+use Rattle.facts.specs.declared.tabs.RootSession.{RootSession}
+use Rattle.facts.specs.Accounts.{is_disabled}
+use Rattle.facts.specs.Realms.{realm_of}
+use Rattle.facts.specs.Tabs.{tab_state, live_session, who_of}
+use Rattle.hall_answers.specs.Setting.{Setting}
+use Rattle.login_progress.specs.declared.known_tab.KnownTab.{KnownTab}
+use Rattle.login_progress.specs.Progress.{progress_of, asked_in, truths_in}
+use Rattle.tab_asks.specs.declared.check.Check.TheVariants.{Fits}
+use Rattle.tab_asks.specs.NewTab.{check_new_tab, facts_opened, new_root_key, new_tab_key}
+use Rattle.tab_asks.specs.Post.{check_post, check_form, evidence_by}
+use Rattle.tab_asks.specs.Visit.{check_tab}
+
+-- at this moment the facts say all that the login of this tab needs in order to complete for this user
+pub record IsReady (facts : List Fact) (moment : ℕ) (root : RootKey) (tab : TabKey) (user : UserId) : Type 0 where
+  -- the root has the tab, by its last opening
+  pub opening : Opening
+  pub is_opened : (tab_state root tab facts).opening ≡ Some opening
+  -- the realm of the version with which it was opened is known
+  pub realm : RealmParts
+  pub is_realm : realm_of opening.version facts ≡ Some realm
+  -- it hasn't completed after its opening
+  pub is_unfinished : (tab_state root tab facts).completed ≡ false
+  -- it isn't split: where a user was named in it and the root has a live session, they are one user
+  pub is_whole : (named : UserId) (own : RootSession) → (tab_state root tab facts).named ≡ Some named
+      → live_session moment (tab_state root tab facts) ≡ Some own → named ≡ own.user
+  -- the login is this user's
+  pub is_theirs : who_of moment (tab_state root tab facts) ≡ Some user
+  -- the user isn't disabled
+  pub is_enabled : is_disabled user facts ≡ false
+  -- the realm's flow holds over what is true in the tab for the user
+  pub holds : flow_holds (truths_in facts tab (Some user) realm.flow) realm.flow ≡ true
+
+-- the user whose login the reply says is complete
+abbrev pub done_for : What → Option UserId
+done_for (whats.Done session user level) = Some user.id
+done_for what = None
+
+-- nothing refuses the open, and the user is ready in the tab that it opens
+pub record IsReadyAtOpening (setting : Setting) (new : NewTab) (user : UserId) : Type 0 where
+  -- the level that it asks
+  pub level : ℕ
+  pub is_level : check_new_tab setting.realm new ≡ Ok level
+  -- with the opening behind the facts
+  pub ready : IsReady (facts_opened setting level) setting.moment (new_root_key setting) (new_tab_key setting) user
+
+-- the executions that a tab asks
+abbrev pub asked_at : Setting → KnownTab → List Need
+asked_at setting known = asked_in (progress_of setting.facts setting.moment known)
+
+-- the post is accepted: nothing refuses it, and its check fits
+pub record IsAccepted (setting : Setting) (post : Post) (finding : Finding) : Type 0 where
+  -- its tab
+  pub known : KnownTab
+  pub is_known : check_tab setting.facts post.root post.tab ≡ Ok known
+  -- the user whom its form names, if any
+  pub named : Option UserId
+  pub is_named : check_post setting.facts setting.moment known post ≡ Ok named
+  -- the user whom its check fits, and the serial of the secret on which it rests
+  pub user : UserId
+  pub credential : ℕ
+  pub fits :
+      check_form setting.facts setting.moment known (asked_at setting known) named post.form finding
+      ≡ Ok (Fits user credential)
+
+-- the facts with the evidence of an accepted post behind them
+abbrev pub facts_accepted : (setting : Setting) (post : Post) (finding : Finding) → IsAccepted setting post finding
+    → List Fact
+facts_accepted setting post finding accepted =
+    setting.facts ++ evidence_by setting accepted.known post.form accepted.user accepted.credential
+
+-- the post is accepted, and the user is ready over the facts with its evidence
+pub record IsReadyAfterPost (setting : Setting) (post : Post) (finding : Finding) (user : UserId) : Type 0 where
+  pub accepted : IsAccepted setting post finding
+  pub ready :
+      IsReady (facts_accepted setting post finding accepted) setting.moment accepted.known.root accepted.known.tab user
