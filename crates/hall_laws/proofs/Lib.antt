@@ -1,7 +1,11 @@
-pub mod Codes
+pub mod Added
+pub mod CodeSerials
+pub mod Evidencing
 pub mod Gates
 pub mod PostReadiness
 pub mod Readiness
 pub mod Repeating
+pub mod StartFacts
 pub mod TabStates
 pub mod Unasked
+pub mod Unmarked

@@ -1,5 +1,5 @@
 -- An accepted post that comes again is refused, and adds nothing.
-use Rattle.std.proofs.Common.{◌≡◌, ℕ, ◌<◌, ◌≤◌, Bool, true, false, List, [], ◌∷◌, ◌++◌, Some, None, refl, sym, ap, subst, ◌∙◌, append_assoc, arith}
+use Rattle.std.proofs.Common.{◌≡◌, ℕ, ◌≤◌, Bool, true, false, List, [], ◌∷◌, ◌++◌, Some, None, refl, sym, ap, subst, ◌∙◌, append_assoc, arith}
 use Rattle.std.specs.Prelude.{Option, Result, Ok, Err, is_some, fold, if◌then◌else◌}
 use Rattle.std.specs.Option.{option_or}
 use Rattle.std.proofs.lemmas.List.{append-nil}
@@ -40,11 +40,11 @@ use Rattle.tab_asks.specs.declared.check.Check.TheVariants as checks
 use Rattle.tab_asks.specs.declared.passing.Passing.{Passing}
 use Rattle.tab_asks.specs.Forms.{named_by, target_of, evidence_of}
 use Rattle.tab_asks.specs.Pages.{page_fact, session_for, session_fact, completion, progress_answer, tab_answer}
-use Rattle.tab_asks.specs.Post.{is_code, check_code, check_user, check_post, has_need, check_form, check_of, known_over, evidence_by, answer_to_accepted, answer_to_check, post_where, post_by, post_in, due_post}
+use Rattle.tab_asks.specs.Post.{is_code, check_code, check_user, check_post, has_need, check_form, check_of, known_over, evidence_by, answer_to_accepted, post_where, post_by, post_in, due_post}
 use Rattle.tab_asks.specs.Visit.{tab_in, tab_with, check_tab, check_whole, check_unfinished, user_of, same_user}
 use Rattle.hall_laws.specs.Ready.{IsAccepted, facts_accepted, done_for}
 use Rattle.hall_laws.specs.Repeats.{HasCodesCounted, is_repeat_refusal, IsRepeatRefused, refused_as_finished}
-use Rattle.hall_laws.proofs.Codes.{IsBelow, last_below, shown_at_most, other_code}
+use Rattle.hall_laws.proofs.CodeSerials.{IsBelow, last_below, shown_at_most, other_code}
 use Rattle.hall_laws.proofs.PostReadiness.{Current, is_current, behind, accepted_due, answered, known_accepted, opened_behind, whole_behind}
 use Rattle.hall_laws.proofs.Readiness.{known_at, ready_user, lets_in}
 use Rattle.hall_laws.proofs.TabStates.{same_id-same, more_state, with_name}
@@ -136,7 +136,7 @@ tab_is_with facts root tab known (Some opening) h =
     sym (ap (λ (k : KnownTab). k.tab) e)
 tab_is_with facts root tab known None h = absurd cc
 
-tab_is : (facts : List Fact) (root : Option RootKey) (tab : TabKey) (known : KnownTab) → check_tab facts root tab ≡ Ok known → known.tab ≡ tab
+pub tab_is : (facts : List Fact) (root : Option RootKey) (tab : TabKey) (known : KnownTab) → check_tab facts root tab ≡ Ok known → known.tab ≡ tab
 unfolding check_tab tab_in
 tab_is facts (Some root) tab known h = tab_is_with facts root tab known (tab_state root tab facts).opening h
 tab_is facts None tab known h = absurd cc

@@ -1,2 +1,3 @@
+pub mod AskedEvidence
 pub mod Ready
 pub mod Repeats

@@ -1,8 +1,14 @@
 //! The laws of what the hall answers. Each function does nothing: its contract is a law.
 #![tactic(auto)]
 
+pub mod codes;
+pub mod evidence;
 pub mod ready;
 pub mod repeats;
+pub mod starts;
 
+pub use codes::{ask_counts_codes, mark_counts_codes, start_counts_codes};
+pub use evidence::{only_posts_add_evidence, post_adds_asked_evidence};
 pub use ready::{open_completes, page_completes, post_completes};
 pub use repeats::{accepted_post_again, completed_post_again};
+pub use starts::start_adds_the_same;

@@ -1,5 +1,5 @@
 -- The serials of the codes that were shown.
-use Rattle.std.proofs.Common.{◌≡◌, ℕ, ◌<◌, ◌≤◌, Bool, true, false, ◌&&◌, List, [], ◌∷◌, ◌++◌, Some, None, refl, sym, ap, ◌∙◌, arith}
+use Rattle.std.proofs.Common.{◌≡◌, ℕ, ◌<◌, ◌≤◌, Bool, true, false, ◌&&◌, List, [], ◌∷◌, ◌++◌, Some, None, sym, subst, arith}
 use Rattle.std.specs.Prelude.{Option, fold, ◌==◌, if◌then◌else◌}
 use Rattle.std.specs.List.{All, list_any}
 use Rattle.std.proofs.lemmas.Bool.{and_left, and_parts, or_parts, eqb-true, ne_eqb}
@@ -15,6 +15,7 @@ use Rattle.facts.specs.Serials.{tab_serial_after, last_tab_serial}
 use Rattle.facts.specs.Tabs.{tab_state, tab_after, no_tab}
 use Rattle.facts.proofs.SerialLemmas.{last_tab_serial_more}
 use Rattle.tab_asks.specs.Post.{is_code}
+use Rattle.login_hall.specs.Start.{is_mark}
 use Rattle.hall_laws.specs.Repeats.{code_serial, HasCodesCounted}
 
 -- ---- the code that a tab showed last
@@ -56,3 +57,57 @@ pub other_code : (code next : Code) → code.0.serial < next.0.serial → is_cod
 other_code code next less =
     and_left (next.0.serial == code.0.serial && next.0.high == code.0.high) (next.0.low == code.0.low)
     (and_left (next.0.serial == code.0.serial) (next.0.high == code.0.high) (ne_eqb next.0.serial code.0.serial (λ e. omega (arith, e, less))))
+
+-- ---- facts with no mark among them keep the codes counted
+
+abbrev pub IsUnmarked : Fact → Type 0
+IsUnmarked fact = is_mark fact ≡ false
+
+rises : (n : ℕ) (fact : Fact) → IsUnmarked fact → n ≤ tab_serial_after n fact
+rises n (events.Opened root tab version level life moment) h = omega arith
+rises n (events.Rendered tab code action offer) h = omega arith
+rises n (events.Mark tabs stored used kept) h = absurd cc
+rises n fact h = omega arith
+
+all_rise : (n : ℕ) (facts : List Fact) → All IsUnmarked facts → n ≤ fold tab_serial_after n facts
+all_rise n [] all = omega arith
+all_rise n (fact ∷ facts) all =
+    let first = rises n fact (All-head IsUnmarked fact facts all) in
+    let rest = all_rise (tab_serial_after n fact) facts (All-tail IsUnmarked fact facts all) in
+    omega (arith, first, rest)
+
+code_counted : (n : ℕ) (fact : Fact) → code_serial fact ≤ tab_serial_after n fact
+code_counted n (events.Rendered tab code action offer) = omega arith
+code_counted n fact = omega arith
+
+more_counted : (n : ℕ) (facts : List Fact) → All IsUnmarked facts → All (λ fact. code_serial fact ≤ fold tab_serial_after n facts) facts
+more_counted n [] all = All-nil (λ (fact : Fact). code_serial fact ≤ n)
+more_counted n (fact ∷ facts) all =
+    let rest = All-tail IsUnmarked fact facts all in
+    let next = tab_serial_after n fact in
+    let here = code_counted n fact in
+    let top = all_rise next facts rest in
+    All-cons (λ (f : Fact). code_serial f ≤ fold tab_serial_after next facts) fact facts (omega (arith, here, top)) (more_counted next facts rest)
+
+pub codes_kept : (old more : List Fact) → All IsUnmarked more → HasCodesCounted old → HasCodesCounted (old ++ more)
+codes_kept old more unmarked counted =
+    let n = last_tab_serial old in
+    let m = fold tab_serial_after n more in
+    let top = all_rise n more unmarked in
+    let front = All-weaker (λ (f : Fact). code_serial f ≤ n) (λ (f : Fact). code_serial f ≤ m) (λ f h. omega (arith, h, top)) old counted in
+    let whole = All-append (λ (f : Fact). code_serial f ≤ m) old more front (more_counted n more unmarked) in
+    subst (λ (k : ℕ). All (λ (f : Fact). code_serial f ≤ k) (old ++ more)) (sym (last_tab_serial_more old more)) whole
+
+pub all_unmarked : (facts : List Fact) → list_any is_mark facts ≡ false → All IsUnmarked facts
+all_unmarked [] h = All-nil IsUnmarked
+all_unmarked (fact ∷ facts) h =
+    let parts = or_parts (is_mark fact) (list_any is_mark facts) h in
+    All-cons IsUnmarked fact facts parts.0 (all_unmarked facts parts.1)
+
+pub mark_counted : (mark : Fact) → is_mark mark ≡ true → HasCodesCounted (mark ∷ [])
+mark_counted (events.Mark tabs stored used kept) h =
+    let mark = events.Mark tabs stored used kept in
+    let P : Fact → Type 0 = λ fact. code_serial fact ≤ last_tab_serial (mark ∷ []) in
+    let least : 0 ≤ last_tab_serial (mark ∷ []) = omega arith in
+    All-cons P mark [] least (All-nil P)
+mark_counted fact h = absurd cc

@@ -1,0 +1,201 @@
+-- What holds of each fact that an answer adds.
+use Rattle.std.proofs.Common.{◌≡◌, ℕ, ◌+◌, Bool, true, false, List, [], ◌∷◌, ◌++◌, Some, None, refl}
+use Rattle.std.specs.Prelude.{Option, Result, Ok, Err, is_some}
+use Rattle.std.specs.List.{All}
+use Rattle.std.proofs.lemmas.List.Elements.{All-nil, All-cons, All-append}
+use Rattle.conditions.specs.declared.secret_kind.SecretKind.{SecretKind}
+use Rattle.conditions.specs.declared.secret_kind.SecretKind.TheVariants as kinds
+use Rattle.login_base.specs.declared.id.Code.{Code}
+use Rattle.login_base.specs.declared.id.RootKey.{RootKey}
+use Rattle.login_base.specs.declared.id.SessionId.{SessionId}
+use Rattle.login_base.specs.declared.id.TabKey.{TabKey}
+use Rattle.login_base.specs.declared.id.UserId.{UserId}
+use Rattle.facts.specs.declared.admin.AdminVerb.{AdminVerb}
+use Rattle.facts.specs.declared.admin.AdminVerb.TheVariants as verbs
+use Rattle.facts.specs.declared.admin.NewUser.{NewUser}
+use Rattle.facts.specs.declared.ask.Access.{Access}
+use Rattle.facts.specs.declared.ask.Ask.{Ask}
+use Rattle.facts.specs.declared.ask.Ask.TheVariants as asks
+use Rattle.facts.specs.declared.ask.NewTab.{NewTab}
+use Rattle.facts.specs.declared.ask.Post.{Post}
+use Rattle.facts.specs.declared.fact.Fact.{Fact}
+use Rattle.facts.specs.declared.fact.Fact.TheVariants as events
+use Rattle.facts.specs.declared.finding.Finding.{Finding}
+use Rattle.facts.specs.declared.finding.Finding.TheVariants as findings
+use Rattle.facts.specs.declared.secret.Secret.{Secret}
+use Rattle.facts.specs.declared.secret.Secret.TheVariants as secrets
+use Rattle.facts.specs.Tabs.{live_session}
+use Rattle.hall_answers.specs.declared.answer.Answer.{Answer}
+use Rattle.hall_answers.specs.declared.refusal.Refusal.{Refusal}
+use Rattle.hall_answers.specs.Ids.{next_code}
+use Rattle.hall_answers.specs.Refusals.{settled}
+use Rattle.hall_answers.specs.Setting.{Setting}
+use Rattle.login_progress.specs.declared.known_tab.KnownTab.{KnownTab}
+use Rattle.login_progress.specs.declared.progress.Progress.{Progress}
+use Rattle.login_progress.specs.declared.progress.Progress.TheVariants as progresses
+use Rattle.login_progress.specs.Progress.{progress_of}
+use Rattle.tab_asks.specs.declared.check.Check.{Check}
+use Rattle.tab_asks.specs.declared.check.Check.TheVariants as checks
+use Rattle.tab_asks.specs.NewTab.{check_new_tab, facts_opened, opening_fact, tab_opened, new_tab_answer, due_new_tab}
+use Rattle.tab_asks.specs.Pages.{page_fact, session_for, session_fact, completion, progress_answer, tab_answer, tab_answer_then, visit_answer, due_page}
+use Rattle.tab_asks.specs.Post.{check_post, check_form, evidence_by, known_over, failure_of, answer_to_accepted, answer_to_wrong, answer_to_check, post_where, post_by, post_in, due_post}
+use Rattle.tab_asks.specs.Visit.{check_tab, check_visit}
+use Rattle.admin_asks.specs.Account.{account_facts}
+use Rattle.admin_asks.specs.Admin.{check_key, due_verb, verb_with, due_admin}
+use Rattle.admin_asks.specs.UserAdd.{check_new_user, derived, answer_to_new_user, due_user_add}
+use Rattle.login_hall.specs.Due.{due_ask}
+use Rattle.hall_laws.specs.AskedEvidence.{is_post}
+use Rattle.hall_laws.specs.Ready.{IsAccepted, asked_at}
+
+-- it holds of each fact that asks add, but for evidence
+pub record Allows (P : Fact → Type 0) : Type 0 where
+  pub page : (tab : TabKey) (code : Code) → P (page_fact tab code)
+  pub seen : (session : SessionId) (moment : ℕ) → P (events.Seen session moment)
+  pub session : (session : SessionId) (root : Option RootKey) (user : UserId) (moment idle most : ℕ) → P (events.Session session root user moment idle most)
+  pub completed : (tab : TabKey) (user : UserId) (session : SessionId) (moment : ℕ) → P (events.Completed tab user session moment)
+  pub opened : (root : RootKey) (tab : TabKey) (version level life moment : ℕ) → P (events.Opened root tab version level life moment)
+  pub failed : (user : UserId) (moment : ℕ) → P (events.Failed user moment)
+  pub user_put : (user : UserId) (name : List ℕ) (roles : List (List ℕ)) → P (events.UserPut user name roles)
+  pub secret_set : (user : UserId) (kind : SecretKind) (serial : ℕ) (secret : Secret) (by : Option TabKey) → P (events.SecretSet user kind serial secret by)
+
+module _ (P : Fact → Type 0) (allows : Allows P) where
+  settled_all : {A : Type 0} (facts : List Fact) (tab : Option TabKey) (answer : A → Answer) (result : Result A Refusal)
+      → ((x : A) → result ≡ Ok x → All P (answer x).added) → All P (settled facts tab answer result).added
+  settled_all facts tab answer (Ok x) each = each x refl
+  settled_all facts tab answer (Err refusal) each = All-nil P
+
+  -- ---- what a tab is answered
+
+  session_all : (setting : Setting) (session : SessionId) (root : RootKey) (user : UserId) (seen : Bool) → P (session_fact setting session root user seen)
+  session_all setting session root user true = allows.seen session setting.moment
+  session_all setting session root user false = allows.session session (Some root) user setting.moment setting.realm.session.idle setting.realm.session.max
+
+  page_alone : (tab : TabKey) (code : Code) → All P (page_fact tab code ∷ [])
+  page_alone tab code = All-cons P (page_fact tab code) [] (allows.page tab code) (All-nil P)
+
+  progress_all : (facts : List Fact) (setting : Setting) (known : KnownTab) (progress : Progress) → All P (progress_answer facts setting known progress).added
+  unfolding progress_answer completion
+  progress_all facts setting known (progresses.Ready user) =
+      let live = live_session setting.moment known.state in
+      let session = session_for facts setting.draws live in
+      let ending = events.Completed known.tab user session setting.moment in
+      All-cons P (session_fact setting session known.root user (is_some live)) (ending ∷ []) (session_all setting session known.root user (is_some live))
+      (All-cons P ending [] (allows.completed known.tab user session setting.moment) (All-nil P))
+  progress_all facts setting known (progresses.Asked asked) = page_alone known.tab (next_code facts setting.draws)
+  progress_all facts setting known (progresses.Denied execution) = All-nil P
+  progress_all facts setting known (progresses.NotConfigured execution) = All-nil P
+  progress_all facts setting known progresses.DeadEnd = All-nil P
+
+  tab_all : (facts : List Fact) (setting : Setting) (known : KnownTab) → All P (tab_answer facts setting known).added
+  unfolding tab_answer
+  tab_all facts setting known = progress_all facts setting known (progress_of facts setting.moment known)
+
+  visit_all : (facts : List Fact) (setting : Setting) (known : KnownTab) → All P (visit_answer facts setting known).added
+  unfolding visit_answer
+  visit_all facts setting known =
+      settled_all facts (Some known.tab) (tab_answer_then facts setting known) (check_visit facts setting.moment known) (λ may is. tab_all facts setting known)
+
+  -- ---- opens and pages
+
+  open_all : (setting : Setting) (new : NewTab) → All P (due_new_tab setting new).added
+  unfolding due_new_tab new_tab_answer
+  open_all setting new =
+      settled_all setting.facts None (new_tab_answer setting) (check_new_tab setting.realm new) (λ level is.
+      let more = facts_opened setting level in
+      let opened = opening_fact setting level in
+      All-cons P opened (visit_answer more setting (tab_opened more setting level)).added (allows.opened _ _ _ _ _ _) (visit_all more setting (tab_opened more setting level)))
+
+  page_all : (setting : Setting) (root : Option RootKey) (tab : TabKey) → All P (due_page setting root tab).added
+  unfolding due_page
+  page_all setting root tab =
+      settled_all setting.facts None (visit_answer setting.facts setting) (check_tab setting.facts root tab) (λ known is. visit_all setting.facts setting known)
+
+  -- ---- posts
+
+  wrong_all : (setting : Setting) (tab : TabKey) (user : Option UserId) → All P (failure_of user setting.moment ++ page_fact tab (next_code setting.facts setting.draws) ∷ [])
+  wrong_all setting tab None = page_alone tab (next_code setting.facts setting.draws)
+  wrong_all setting tab (Some user) =
+      let code = next_code setting.facts setting.draws in
+      All-cons P (events.Failed user setting.moment) (page_fact tab code ∷ []) (allows.failed user setting.moment) (page_alone tab code)
+
+  module _ (setting : Setting) (post : Post) (finding : Finding)
+      (evidence : (accepted : IsAccepted setting post finding) → All P (evidence_by setting accepted.known post.form accepted.user accepted.credential)) where
+    check_all : (known : KnownTab) (named : Option UserId) (check : Check) → check_tab setting.facts post.root post.tab ≡ Ok known → check_post setting.facts setting.moment known post ≡ Ok named
+        → check_form setting.facts setting.moment known (asked_at setting known) named post.form finding ≡ Ok check
+        → All P (answer_to_check setting known (asked_at setting known) post.form check).added
+    unfolding answer_to_check answer_to_accepted answer_to_wrong
+    check_all known named (checks.Fits user credential) is_known is_named fits =
+        let accepted : IsAccepted setting post finding = record { known = known; is_known = is_known; named = named; is_named = is_named; user = user; credential = credential; fits = fits } in
+        let added = evidence_by setting known post.form user credential in
+        let more = setting.facts ++ added in
+        All-append P added (tab_answer more setting (known_over known more)).added (evidence accepted) (tab_all more setting (known_over known more))
+    check_all known named (checks.Wrong user) is_known is_named fits = wrong_all setting known.tab user
+
+    pub post_all : All P (due_post setting post finding).added
+    unfolding due_post post_in post_where
+    post_all =
+        let facts = setting.facts in
+        settled_all facts None (post_in setting post finding) (check_tab facts post.root post.tab) (λ known is_known.
+        settled_all facts (Some known.tab) (post_by setting post.form finding known) (check_post facts setting.moment known post) (λ named is_named.
+        let asked = asked_at setting known in
+        settled_all facts (Some known.tab) (answer_to_check setting known asked post.form) (check_form facts setting.moment known asked named post.form finding) (λ check is.
+        check_all known named check is_known is_named is)))
+
+  -- ---- administrators
+
+  account_all : (user : UserId) (name : List ℕ) (roles : List (List ℕ)) (finding : Finding) → All P (account_facts user name roles true (derived finding))
+  account_all user name roles (findings.Derived salt count digest) =
+      let secret : Secret = secrets.Password (record { salt = salt; iterations = count; digest = digest }) in
+      let set = events.SecretSet user kinds.Password (user.0 + 1) secret None in
+      All-cons P (events.UserPut user name roles) (set ∷ []) (allows.user_put user name roles) (All-cons P set [] (allows.secret_set user kinds.Password (user.0 + 1) secret None) (All-nil P))
+  account_all user name roles (findings.Checked had fits) = All-cons P (events.UserPut user name roles) [] (allows.user_put user name roles) (All-nil P)
+  account_all user name roles findings.None = All-cons P (events.UserPut user name roles) [] (allows.user_put user name roles) (All-nil P)
+
+  user_all : (setting : Setting) (new : NewUser) (finding : Finding) → All P (due_user_add setting new finding).added
+  unfolding due_user_add
+  user_all setting new finding =
+      settled_all setting.facts None (answer_to_new_user new finding) (check_new_user setting.facts new) (λ user is. account_all user new.name new.roles finding)
+
+  verb_all : (setting : Setting) (verb : AdminVerb) (finding : Finding) → All P (due_verb setting verb finding).added
+  verb_all setting (verbs.RealmPut realm) finding = All-nil P
+  verb_all setting (verbs.UserAdd new) finding = user_all setting new finding
+  verb_all setting (verbs.Roles name roles) finding = All-nil P
+  verb_all setting (verbs.SetPassword name password) finding = All-nil P
+  verb_all setting (verbs.OtpSet name secret) finding = All-nil P
+  verb_all setting (verbs.OtpRemove name) finding = All-nil P
+  verb_all setting (verbs.Require name action) finding = All-nil P
+  verb_all setting (verbs.Enable name) finding = All-nil P
+  verb_all setting (verbs.Disable name) finding = All-nil P
+  verb_all setting (verbs.Unlock name) finding = All-nil P
+  verb_all setting (verbs.Token name action life) finding = All-nil P
+  verb_all setting (verbs.Revoke session) finding = All-nil P
+  verb_all setting verbs.Sweep finding = All-nil P
+
+  admin_all : (setting : Setting) (access : Access) (verb : AdminVerb) (finding : Finding) → All P (due_admin setting access verb finding).added
+  unfolding due_admin
+  admin_all setting access verb finding =
+      settled_all setting.facts None (verb_with setting verb finding) (check_key setting.realm access) (λ key is. verb_all setting verb finding)
+
+  -- ---- any ask
+
+  pub other_all : (setting : Setting) (ask : Ask) (finding : Finding) → is_post ask ≡ false → All P (due_ask setting ask finding).added
+  other_all setting (asks.Bad at) finding h = All-nil P
+  other_all setting (asks.NewTab new) finding h = open_all setting new
+  other_all setting (asks.Page root tab) finding h = page_all setting root tab
+  other_all setting (asks.Post post) finding h = absurd cc
+  other_all setting (asks.Verify key) finding h = All-nil P
+  other_all setting (asks.Reset key password) finding h = All-nil P
+  other_all setting (asks.Logout root) finding h = All-nil P
+  other_all setting (asks.Admin access verb) finding h = admin_all setting access verb finding
+
+  pub ask_all : (setting : Setting) (ask : Ask) (finding : Finding)
+      → ((post : Post) (accepted : IsAccepted setting post finding) → All P (evidence_by setting accepted.known post.form accepted.user accepted.credential))
+      → All P (due_ask setting ask finding).added
+  ask_all setting (asks.Bad at) finding evidence = All-nil P
+  ask_all setting (asks.NewTab new) finding evidence = open_all setting new
+  ask_all setting (asks.Page root tab) finding evidence = page_all setting root tab
+  ask_all setting (asks.Post post) finding evidence = post_all setting post finding (evidence post)
+  ask_all setting (asks.Verify key) finding evidence = All-nil P
+  ask_all setting (asks.Reset key password) finding evidence = All-nil P
+  ask_all setting (asks.Logout root) finding evidence = All-nil P
+  ask_all setting (asks.Admin access verb) finding evidence = admin_all setting access verb finding

@@ -1,0 +1,113 @@
+-- Evidence comes of posts alone, and only where it was asked.
+use Rattle.std.proofs.Common.{◌≡◌, ℕ, true, false, ◌&&◌, List, [], ◌∷◌, Some, None, refl, ap, ◌∙◌}
+use Rattle.std.specs.Prelude.{Option, ◌==◌}
+use Rattle.std.specs.List.{All}
+use Rattle.std.proofs.lemmas.Bool.{and_parts, eqb-true}
+use Rattle.std.proofs.lemmas.List.Elements.{All-nil, All-cons}
+use Rattle.login_base.specs.IdText.{same_id}
+use Rattle.login_base.specs.declared.id.Code.{Code}
+use Rattle.login_base.specs.declared.id.Id.{Id}
+use Rattle.facts.specs.declared.ask.Ask.{Ask}
+use Rattle.facts.specs.declared.ask.Form.{Form}
+use Rattle.facts.specs.declared.ask.Form.TheVariants as forms
+use Rattle.facts.specs.declared.ask.Post.{Post}
+use Rattle.facts.specs.declared.fact.Fact.{Fact}
+use Rattle.facts.specs.declared.finding.Finding.{Finding}
+use Rattle.hall_answers.specs.Setting.{Setting}
+use Rattle.tab_asks.specs.declared.passing.Passing.{Passing}
+use Rattle.flow_tree.specs.declared.exec.Kind.TheVariants as kinds
+use Rattle.tab_asks.specs.Forms.{evidence_of, name_fact, evidence_fact}
+use Rattle.tab_asks.specs.Post.{is_code, due_post}
+use Rattle.login_hall.specs.Due.{due_ask}
+use Rattle.hall_laws.specs.AskedEvidence.{execution_of, IsRightEvidence, IsAskedEvidence, is_evidence, is_post}
+use Rattle.hall_laws.specs.Ready.{IsAccepted}
+use Rattle.hall_laws.proofs.Added.{Allows, post_all, other_all}
+use Rattle.hall_laws.proofs.PostReadiness.{behind}
+use Rattle.hall_laws.proofs.Repeating.{tab_is}
+
+same_is : (a b : Id) → same_id a b ≡ true → a ≡ b
+same_is a b h =
+    let front = and_parts (a.serial == b.serial && a.high == b.high) (a.low == b.low) h in
+    let both = and_parts (a.serial == b.serial) (a.high == b.high) front.0 in
+    let serial = eqb-true a.serial b.serial both.0 in
+    let high = eqb-true a.high b.high both.1 in
+    let low = eqb-true a.low b.low front.1 in
+    ap (λ (n : ℕ). let id : Id = record { serial = n; high = a.high; low = a.low } in id) serial
+    ∙ ap (λ (n : ℕ). let id : Id = record { serial = b.serial; high = n; low = a.low } in id) high
+    ∙ ap (λ (n : ℕ). let id : Id = record { serial = b.serial; high = b.high; low = n } in id) low
+
+code_is : (code : Code) (shown : Option Code) → is_code code shown ≡ true → shown ≡ Some code
+code_is code (Some shown) h = ap (λ (id : Id). let option : Option Code = Some (record { 0 = id }) in option) (same_is shown.0 code.0 h)
+code_is code None h = absurd cc
+
+-- ---- posts
+
+form_asked : (setting : Setting) (post : Post) (passing : Passing) (form : Form)
+    → ((execution : List ℕ) → execution_of form ≡ Some execution → IsRightEvidence setting post passing.tab execution)
+    → All (IsAskedEvidence setting post) (evidence_of passing form)
+form_asked setting post passing (forms.Username execution name) right =
+    let P : Fact → Type 0 = IsAskedEvidence setting post in
+    All-cons P (name_fact passing) (evidence_fact passing execution kinds.Username ∷ []) tt (All-cons P (evidence_fact passing execution kinds.Username) [] (right execution refl) (All-nil P))
+form_asked setting post passing (forms.NamePassword execution name password) right =
+    let P : Fact → Type 0 = IsAskedEvidence setting post in
+    All-cons P (name_fact passing) (evidence_fact passing execution kinds.Form ∷ []) tt (All-cons P (evidence_fact passing execution kinds.Form) [] (right execution refl) (All-nil P))
+form_asked setting post passing (forms.Password execution password) right =
+    let P : Fact → Type 0 = IsAskedEvidence setting post in
+    All-cons P (evidence_fact passing execution kinds.Password) [] (right execution refl) (All-nil P)
+form_asked setting post passing (forms.Value execution value) right = All-nil (IsAskedEvidence setting post)
+form_asked setting post passing forms.Terms right = All-nil (IsAskedEvidence setting post)
+form_asked setting post passing (forms.UpdatePassword password) right = All-nil (IsAskedEvidence setting post)
+form_asked setting post passing (forms.ConfigureOtp value) right = All-nil (IsAskedEvidence setting post)
+form_asked setting post passing forms.RecoveryCodes right = All-nil (IsAskedEvidence setting post)
+form_asked setting post passing forms.VerifyEmail right = All-nil (IsAskedEvidence setting post)
+
+accepted_right : (setting : Setting) (post : Post) (finding : Finding) (accepted : IsAccepted setting post finding) (execution : List ℕ) → execution_of post.form ≡ Some execution
+    → IsRightEvidence setting post accepted.known.tab execution
+accepted_right setting post finding accepted execution h =
+    let b = behind setting post finding accepted in
+    record {
+      is_its_tab = tab_is setting.facts post.root post.tab accepted.known accepted.is_known;
+      is_of_form = h;
+      known = accepted.known;
+      is_known = accepted.is_known;
+      is_shown = code_is post.code accepted.known.state.code b.current.code_shown;
+      is_asked = b.fitting.form_asked;
+    }
+
+asked_allows : (setting : Setting) (post : Post) → Allows (IsAskedEvidence setting post)
+asked_allows setting post = record {
+  page = λ tab code. tt;
+  seen = λ session moment. tt;
+  session = λ session root user moment idle most. tt;
+  completed = λ tab user session moment. tt;
+  opened = λ root tab version level life moment. tt;
+  failed = λ user moment. tt;
+  user_put = λ user name roles. tt;
+  secret_set = λ user kind serial secret by. tt;
+}
+
+pub evidence_asked : (setting : Setting) (post : Post) (finding : Finding) → All (IsAskedEvidence setting post) (due_post setting post finding).added
+evidence_asked setting post finding =
+    post_all (IsAskedEvidence setting post) (asked_allows setting post) setting post finding (λ accepted.
+    let passing : Passing = record { tab = accepted.known.tab; user = accepted.user; credential = accepted.credential; moment = setting.moment } in
+    form_asked setting post passing post.form (accepted_right setting post finding accepted))
+
+-- ---- other asks
+
+abbrev IsNone : Fact → Type 0
+IsNone fact = is_evidence fact ≡ false
+
+none_allows : Allows IsNone
+none_allows = record {
+  page = λ tab code. refl;
+  seen = λ session moment. refl;
+  session = λ session root user moment idle most. refl;
+  completed = λ tab user session moment. refl;
+  opened = λ root tab version level life moment. refl;
+  failed = λ user moment. refl;
+  user_put = λ user name roles. refl;
+  secret_set = λ user kind serial secret by. refl;
+}
+
+pub evidence_of_posts : (setting : Setting) (ask : Ask) (finding : Finding) → is_post ask ≡ false → All (λ fact. is_evidence fact ≡ false) (due_ask setting ask finding).added
+evidence_of_posts setting ask finding h = other_all IsNone none_allows setting ask finding h
