@@ -44,7 +44,13 @@ fn due_verb<L: Ledger>(
         | AdminVerb::Token { .. }
         | AdminVerb::Revoke { .. }
         | AdminVerb::Sweep => {
-            refused(setting.alloc, &setting.facts(), None, Refusal::NotBuilt, steps)
+            refused(
+                setting.alloc,
+                &setting.facts(),
+                None,
+                Refusal::NotBuilt,
+                steps,
+            )
         }
     }
 }

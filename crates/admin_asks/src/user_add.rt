@@ -103,7 +103,9 @@ fn answer_to_new_user(
     let text = user_text(alloc, &new.name, user)?;
     let mut added = Sequence::new(alloc);
     let password = derived(finding);
-    add_account(alloc, &mut added, user, &new.name, &new.roles, true, &password)?;
+    add_account(
+        alloc, &mut added, user, &new.name, &new.roles, true, &password,
+    )?;
     Ok(Answer::plain(What::Told { text }, added))
 }
 

@@ -78,9 +78,10 @@ no_text (Checks password) = refl
 no_text (Sets password) = refl
 
 pub emptied_ask : (ask : Ask) → (password_use (emptied ask) ≡ password_use ask) × (password_text (emptied ask) ≡ [])
-emptied_ask ask =
-    ( subst (λ (slot : Slot). use_of slot ≡ use_of (slot_of ask)) (sym (slot_emptied ask)) (same_use (slot_of ask))
-    , subst (λ (slot : Slot). text_of slot ≡ []) (sym (slot_emptied ask)) (no_text (slot_of ask)) )
+emptied_ask ask = (
+  subst (λ (slot : Slot). use_of slot ≡ use_of (slot_of ask)) (sym (slot_emptied ask)) (same_use (slot_of ask)),
+  subst (λ (slot : Slot). text_of slot ≡ []) (sym (slot_emptied ask)) (no_text (slot_of ask)),
+)
 
 -- ---- an ask that does nothing with a password is itself when it is emptied
 

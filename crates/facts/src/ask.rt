@@ -78,7 +78,10 @@ pub enum Ask {
     /// Opens a tab.
     NewTab(NewTab),
     /// Shows a tab's page again.
-    Page { root: Option<RootKey>, tab: TabKey },
+    Page {
+        root: Option<RootKey>,
+        tab: TabKey,
+    },
     /// Posts a form.
     Post(Post),
     /// Follows a token of `verify_email`.

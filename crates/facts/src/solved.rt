@@ -83,10 +83,12 @@ fn take_from_verb(verb: &mut AdminVerb, nothing: Sequence<u8>) -> Sequence<u8>
 {
     match verb {
         AdminVerb::SetPassword { password, .. } => mem::replace(password, nothing),
-        AdminVerb::UserAdd(NewUser {
-            password: Some(password),
-            ..
-        }) => mem::replace(password, nothing),
+        AdminVerb::UserAdd(
+            NewUser {
+                password: Some(password),
+                ..
+            },
+        ) => mem::replace(password, nothing),
         _ => nothing,
     }
 }
@@ -118,10 +120,12 @@ fn has_empty_password(ask: &Ask) -> bool
         Ask::Reset { password, .. } => password.is_empty(),
         Ask::Admin { verb, .. } => match verb {
             AdminVerb::SetPassword { password, .. } => password.is_empty(),
-            AdminVerb::UserAdd(NewUser {
-                password: Some(password),
-                ..
-            }) => password.is_empty(),
+            AdminVerb::UserAdd(
+                NewUser {
+                    password: Some(password),
+                    ..
+                },
+            ) => password.is_empty(),
             _ => true,
         },
         _ => true,

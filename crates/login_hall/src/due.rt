@@ -37,7 +37,13 @@ pub(crate) fn due<L: Ledger>(
         Ask::Post(post) => due_post(setting, post, finding, steps),
         Ask::Admin { access, verb } => due_admin(setting, access, verb, finding, steps),
         Ask::Verify { .. } | Ask::Reset { .. } | Ask::Logout { .. } => {
-            refused(setting.alloc, &setting.facts(), None, Refusal::NotBuilt, steps)
+            refused(
+                setting.alloc,
+                &setting.facts(),
+                None,
+                Refusal::NotBuilt,
+                steps,
+            )
         }
     }
 }

@@ -55,7 +55,7 @@ completion facts setting known user =
     let live = live_session setting.moment known.state in
     let session = session_for facts setting.draws live in
     answer_in known.tab (whats.Done session (who_named facts user) known.opening.level)
-      (session_fact setting session known.root user (is_some live) ∷ events.Completed known.tab user session setting.moment ∷ [])
+    (session_fact setting session known.root user (is_some live) ∷ events.Completed known.tab user session setting.moment ∷ [])
 
 -- ---- all together
 

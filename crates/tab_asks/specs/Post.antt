@@ -136,7 +136,7 @@ failure_of (Some user) moment = events.Failed user moment ∷ []
 unfoldable pub answer_to_wrong : Setting → TabKey → List Need → Option UserId → Answer
 answer_to_wrong setting tab asked user =
     answer_in tab (whats.BadCredentials (nexts.Form (next_code setting.facts setting.draws) asked))
-      (failure_of user setting.moment ++ page_fact tab (next_code setting.facts setting.draws) ∷ [])
+    (failure_of user setting.moment ++ page_fact tab (next_code setting.facts setting.draws) ∷ [])
 
 unfoldable pub answer_to_check : Setting → KnownTab → List Need → Form → Check → Answer
 answer_to_check setting known asked form (checks.Fits user credential) = answer_to_accepted setting known form user credential

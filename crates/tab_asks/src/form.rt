@@ -10,11 +10,7 @@ use login_base::{Name, Steps, UserId};
 use std::sync::ledger::Ledger;
 
 /// The user whom a form names.
-pub fn named_by<L: Ledger>(
-    facts: &Facts<'_>,
-    form: &Form,
-    steps: &mut Steps<L>,
-) -> Option<UserId>
+pub fn named_by<L: Ledger>(facts: &Facts<'_>, form: &Form, steps: &mut Steps<L>) -> Option<UserId>
     ensures value { result ≡ named_by facts.now form.now }
 {
     match form {

@@ -3,17 +3,35 @@ ghost use Rattle.facts.specs.Tabs.{tab_state};
 ghost use Rattle.hall_answers.specs.HasSerials.{HasSerials};
 ghost use Rattle.login_progress.specs.Progress.{asked_in};
 ghost use Rattle.tab_asks.specs.Post.{
-    is_code, check_code, check_user, check_post, has_need, check_asked, serial_of, had_by, check_credential, password_check, name_check, check_of,
-    check_form, known_over, answer_to_accepted, failure_of, answer_to_wrong, answer_to_check, post_where, post_by, post_in, due_post,
+  is_code,
+  check_code,
+  check_user,
+  check_post,
+  has_need,
+  check_asked,
+  serial_of,
+  had_by,
+  check_credential,
+  password_check,
+  name_check,
+  check_of,
+  check_form,
+  known_over,
+  answer_to_accepted,
+  failure_of,
+  answer_to_wrong,
+  answer_to_check,
+  post_where,
+  post_by,
+  post_in,
+  due_post,
 };
 
 use crate::check::Check;
 use crate::form::{concerned, is_of, named_by, target_of};
 use crate::pages::{page_fact, tab_answer};
 use crate::passing::Passing;
-use crate::visit::{
-    check_enabled, check_tab, check_unfinished, check_whole, same_user, user_of,
-};
+use crate::visit::{check_enabled, check_tab, check_unfinished, check_whole, same_user, user_of};
 use fact_scans::tab_state_with;
 use facts::{Fact, Facts, Finding, Form, Need, Next, Post, UserPassword, What};
 use hall_answers::{Answer, Refusal, Setting, next_code, refused};
@@ -309,7 +327,16 @@ fn post_where<L: Ledger>(
 {
     let facts = setting.facts();
     let moment = setting.moment;
-    match check_form(&facts, moment, known, asked.as_slice(), named, form, finding, steps) {
+    match check_form(
+        &facts,
+        moment,
+        known,
+        asked.as_slice(),
+        named,
+        form,
+        finding,
+        steps,
+    ) {
         Ok(check) => answer_to_check(setting, known, asked, form, check, steps),
         Err(refusal) => {
             discard(asked);

@@ -7,5 +7,7 @@ use Rattle.tab_asks.proofs.post.known_after.Goals as goal
 pub returns : goal.returns
 returns c =
     let k = c.args.known.now in
-    record { known = ap (λ (s : TabState). let after : KnownTab = record k { state = s } in after)
-    (c.tab_state_with.ensures.value ∙ tab_state_more k.root k.tab k.state c.args.setting.now.facts c.args.evidence.now c.requires.state) }
+    record {
+      known = ap (λ (s : TabState). let after : KnownTab = record k { state = s } in after)
+          (c.tab_state_with.ensures.value ∙ tab_state_more k.root k.tab k.state c.args.setting.now.facts c.args.evidence.now c.requires.state);
+    }
