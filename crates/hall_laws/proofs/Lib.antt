@@ -6,6 +6,7 @@ pub mod PostReadiness
 pub mod Readiness
 pub mod Repeating
 pub mod StartFacts
+pub mod TabFolds
 pub mod TabStates
 pub mod Unasked
 pub mod Unmarked

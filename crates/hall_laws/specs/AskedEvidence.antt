@@ -42,7 +42,8 @@ pub record IsRightEvidence (setting : Setting) (post : Post) (tab : TabKey) (exe
 
 -- the fact is right evidence after the post, or none
 abbrev pub IsAskedEvidence : Setting → Post → Fact → Type 0
-IsAskedEvidence setting post (events.Passed tab execution user kind credential moment) = IsRightEvidence setting post tab execution
+IsAskedEvidence setting post (events.Passed tab execution user kind credential moment) =
+    IsRightEvidence setting post tab execution
 IsAskedEvidence setting post event = Unit {0}
 
 abbrev pub is_evidence : Fact → Bool

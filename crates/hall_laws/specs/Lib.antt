@@ -1,3 +1,4 @@
 pub mod AskedEvidence
 pub mod Ready
 pub mod Repeats
+pub mod TabHistory
