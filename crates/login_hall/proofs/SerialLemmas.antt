@@ -1,5 +1,5 @@
 -- How far an ask raises the counters.
-use Rattle.std.proofs.Common.{◌≡◌, ℕ, ◌+◌, ◌≤◌, List, ◌++◌, arith}
+use Rattle.std.proofs.Common.{ℕ, ◌≤◌, List, ◌++◌, arith}
 use Rattle.facts.specs.declared.ask.Ask.{Ask}
 use Rattle.facts.specs.declared.ask.Ask.TheVariants as asks
 use Rattle.facts.specs.declared.fact.Fact.{Fact}

@@ -1,6 +1,4 @@
 //! What asks are due over chronicles made by hand.
-ghost use Rattle.std.specs.Prelude.{◌≡◌, true, IfOk, OnOk};
-ghost use Rattle.facts.specs.Realms.{has_realm};
 ghost use Rattle.login_base.specs.Steps.{IsBlank};
 
 use crate::due::due;
@@ -20,13 +18,13 @@ use std::sync::ledger::{Blank, Ledger};
 use std::test::Fail;
 
 /// What an ask is due over a chronicle.
+#[tactic(auto, unfolding(facts::specs::Realms::has_realm))]
 fn due_over<L: Ledger>(
     alloc: Global,
     chronicle: &Chronicle,
     solved: &Solved,
     blank: Blank,
 ) -> Result<Answer, Fail>
-    requires realm { has_realm chronicle.now.list ≡ true }
     requires blank { IsBlank blank L.name L.parts }
 {
     if chronicle.last_tab_serial() > LAST_START
@@ -34,6 +32,9 @@ fn due_over<L: Ledger>(
         || chronicle.last_version() > LAST_START
     {
         return Err("the serials are used up".into());
+    }
+    if chronicle.current_realm().is_none() {
+        return Err("there is no realm".into());
     }
     let mut steps = Steps::<L>::new(blank);
     let setting = Setting::at(alloc, chronicle, Moment::clamped(MOMENT), &DRAWS);
@@ -47,10 +48,7 @@ fn answered_over(
     chronicle: &mut Chronicle,
     line: Line,
     finding: Finding,
-) -> Result<Vec<u8>, Fail>
-    requires realm { has_realm chronicle.old.list ≡ true }
-    ensures realm { OnOk result (has_realm chronicle.new.list ≡ true) }
-{
+) -> Result<Vec<u8>, Fail> {
     let solved = Solved::of_journal(ask_of(alloc, line)?, finding).ok_or("another finding")?;
     let answer = due_over::<Brand>(alloc, chronicle, &solved, Blank::new(1));
     discard(solved);
@@ -241,9 +239,7 @@ tab 2 completed
 ];
 
 /// A chronicle of users, a tab that was opened, and these facts.
-fn chronicle_of(alloc: Global, made: &[Made]) -> Result<Chronicle, Fail>
-    ensures realm { IfOk result (λ chronicle. has_realm chronicle.list ≡ true) }
-{
+fn chronicle_of(alloc: Global, made: &[Made]) -> Result<Chronicle, Fail> {
     let mut chronicle = marked(alloc, 0)?;
     let _users = start_over(alloc, &mut chronicle, Some(realm_of(alloc, FEW)?))?;
     let _page = answered_over(alloc, &mut chronicle, OPEN, Finding::None)?;

@@ -1,6 +1,3 @@
-ghost use Rattle.std.specs.Prelude.{◌≡◌, true, OnOk};
-ghost use Rattle.facts.specs.Realms.{has_realm};
-
 use crate::sample_lines::add_facts;
 use crate::sample_realms::{FEW, FORM, Given, realm_of};
 use crate::start::start_facts;
@@ -156,9 +153,7 @@ const REALMS: [Starts; 6] = [
 ];
 
 /// Adds a fact to a chronicle.
-pub(crate) fn add_fact(chronicle: &mut Chronicle, fact: Fact) -> Result<(), Fail>
-    ensures realm { has_realm chronicle.old.list ≡ true → OnOk result (has_realm chronicle.new.list ≡ true) }
-{
+pub(crate) fn add_fact(chronicle: &mut Chronicle, fact: Fact) -> Result<(), Fail> {
     let facts = [fact];
     let reserved = chronicle.reserve(&facts);
     discard(facts);
@@ -188,9 +183,7 @@ pub(crate) fn start_over(
     alloc: Global,
     chronicle: &mut Chronicle,
     realm: Option<Realm>,
-) -> Result<Vec<u8>, Fail>
-    ensures realm { OnOk result (has_realm chronicle.new.list ≡ true) }
-{
+) -> Result<Vec<u8>, Fail> {
     if chronicle.last_stored_serial() > LAST_START || chronicle.last_version() > LAST_START {
         return Err("the serials are used up".into());
     }
