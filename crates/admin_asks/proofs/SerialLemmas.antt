@@ -2,13 +2,13 @@
 use Rattle.std.proofs.Common.{◌≡◌, ℕ, ◌+◌, List, Option, Some, None, refl, ap, sym, arith}
 use Rattle.std.specs.Prelude.{Result, Ok, Err}
 use Rattle.login_base.specs.declared.id.UserId.{UserId}
-use Rattle.facts.specs.declared.admin.AdminVerb.{AdminVerb}
-use Rattle.facts.specs.declared.admin.AdminVerb.TheVariants as verbs
-use Rattle.facts.specs.declared.admin.NewUser.{NewUser}
-use Rattle.facts.specs.declared.ask.Access.{Access}
+use Rattle.asks.specs.declared.admin.AdminVerb.{AdminVerb}
+use Rattle.asks.specs.declared.admin.AdminVerb.TheVariants as verbs
+use Rattle.asks.specs.declared.admin.NewUser.{NewUser}
+use Rattle.asks.specs.declared.ask.Access.{Access}
 use Rattle.facts.specs.declared.fact.Fact.{Fact}
-use Rattle.facts.specs.declared.finding.Finding.{Finding}
-use Rattle.facts.specs.declared.finding.Finding.TheVariants as findings
+use Rattle.asks.specs.declared.finding.Finding.{Finding}
+use Rattle.asks.specs.declared.finding.Finding.TheVariants as findings
 use Rattle.facts.specs.Serials.{last_stored_serial}
 use Rattle.hall_answers.specs.declared.refusal.Refusal.{Refusal}
 use Rattle.hall_answers.specs.Refusals.{◌>>=◌, settled}

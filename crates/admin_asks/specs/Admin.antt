@@ -2,11 +2,11 @@
 use Rattle.std.specs.Prelude.{None, Result, Ok, Err, if◌then◌else◌}
 use Rattle.std.specs.Str.{bytes_eq}
 use Rattle.realm_data.specs.declared.realm_parts.RealmParts.{RealmParts}
-use Rattle.facts.specs.declared.admin.AdminVerb.{AdminVerb}
-use Rattle.facts.specs.declared.admin.AdminVerb.TheVariants as verbs
-use Rattle.facts.specs.declared.ask.Access.{Access}
-use Rattle.facts.specs.declared.ask.Access.TheVariants as ways
-use Rattle.facts.specs.declared.finding.Finding.{Finding}
+use Rattle.asks.specs.declared.admin.AdminVerb.{AdminVerb}
+use Rattle.asks.specs.declared.admin.AdminVerb.TheVariants as verbs
+use Rattle.asks.specs.declared.ask.Access.{Access}
+use Rattle.asks.specs.declared.ask.Access.TheVariants as ways
+use Rattle.asks.specs.declared.finding.Finding.{Finding}
 use Rattle.hall_answers.specs.declared.answer.Answer.{Answer}
 use Rattle.hall_answers.specs.declared.refusal.Refusal.{Refusal}
 use Rattle.hall_answers.specs.declared.refusal.Refusal.TheVariants.{NotBuilt, WrongKey}

@@ -1,8 +1,7 @@
-ghost use Rattle.std.specs.Prelude.{◌≡◌, Some, fold, if◌then◌else◌};
+ghost use Rattle.std.specs.Prelude.{◌≡◌, ◌<◌, Some, fold, length, option_map, slice_get, if◌then◌else◌};
 ghost use Rattle.facts.specs.Tabs.{is_root, seen_at, ended_by, session_after, tab_after, are_new, tab_state};
 ghost use Rattle.login_base.specs.IdText.{same_id};
 
-use crate::scan::fold_by;
 use facts::{Chronicle, Fact, Facts, Fold, Opening, RootSession, TabState, fold_in};
 use login_base::{Moment, RootKey, SessionId, Steps, TabKey, UserId, same_id};
 use std::sync::ledger::Ledger;
@@ -128,6 +127,36 @@ impl Fold for TabOf {
     }
 }
 
+impl TabOf {
+    /// Carries it over the fact at a place, which is read only where it can be about the tab.
+    #[tactic(auto, using(facts::proofs::SubjectLemmas::unconcerned_at))]
+    fn after_kept<L: Ledger>(
+        &self,
+        carried: &mut TabState,
+        chronicle: &Chronicle,
+        index: usize,
+        steps: &mut Steps<L>,
+    )
+        requires within { index < length chronicle.now.list }
+        ensures value { option_map (tab_after self.now.root self.now.tab carried.old) (slice_get chronicle.now.list index) ≡ Some carried.new }
+    {
+        if chronicle.subject(index).concerns(self.root, self.tab) {
+            self.after(carried, chronicle.at(index, steps));
+        }
+    }
+
+    /// What is carried to the end of a chronicle.
+    fn kept<L: Ledger>(&self, chronicle: &Chronicle, start: TabState, steps: &mut Steps<L>) -> TabState
+        ensures { result ≡ fold (tab_after self.now.root self.now.tab) start chronicle.now.list }
+    {
+        let mut carried = start;
+        for i in 0..chronicle.len() {
+            self.after_kept(&mut carried, chronicle, i, steps);
+        }
+        carried
+    }
+}
+
 /// Whether a root and a tab are newer than all that these facts name.
 fn are_new(chronicle: &Chronicle, root: RootKey, tab: TabKey) -> bool
     ensures { result ≡ are_new root tab chronicle.now.list }
@@ -138,7 +167,7 @@ fn are_new(chronicle: &Chronicle, root: RootKey, tab: TabKey) -> bool
 
 /// What is known of a tab of a root. Where both are newer than all that the chronicle names, its
 /// facts aren't read.
-#[tactic(auto, unfolding(facts::specs::Tabs::tab_state), using(facts::proofs::TabLemmas::new_tab_more))]
+#[tactic(auto, unfolding(facts::specs::Tabs::tab_state), using(facts::proofs::TabLemmas::new_tab_more, facts::proofs::PlacesLemmas::fold_append))]
 pub fn tab_state<L: Ledger>(
     facts: &Facts<'_>,
     root: RootKey,
@@ -159,7 +188,7 @@ pub fn tab_state<L: Ledger>(
     if are_new(chronicle, root, tab) {
         fold_in(more, &of, nothing)
     } else {
-        fold_by(facts, &of, nothing, steps)
+        fold_in(more, &of, of.kept(chronicle, nothing, steps))
     }
 }
 

@@ -1,5 +1,5 @@
 pub mod InForce
-pub mod PasswordLemmas
 pub mod PlacesLemmas
 pub mod SerialLemmas
+pub mod SubjectLemmas
 pub mod TabLemmas

@@ -1,9 +1,9 @@
 -- One more fact at the end.
-use Rattle.std.proofs.Common.{◌≡◌, ℕ, ◌+◌, ◌<◌, get_or, length, List, [], ◌∷◌, ◌++◌, take, drop, Option, Some, None, slice_get, refl, ap, sym, ◌∙◌}
+use Rattle.std.proofs.Common.{◌≡◌, ℕ, ◌+◌, ◌<◌, get_or, length, List, [], ◌∷◌, ◌++◌, take, drop, Option, Some, None, option_map, slice_get, refl, ap, sym, ◌∙◌}
 use Rattle.std.specs.Prelude.{fold}
 use Rattle.std.proofs.lemmas.Grind.{fold-append}
 use Rattle.std.proofs.lemmas.List.{take_more, take-append-drop}
-use Rattle.std.proofs.lemmas.Option.{get_or_from_slice_get, slice_get_within, slice_get-get_or}
+use Rattle.std.proofs.lemmas.Option.{get_or_from_slice_get, slice_get_within, slice_get-get_or, same_Some}
 use Rattle.std.specs.Option.{option_or}
 use Rattle.facts.specs.Places.{last_of}
 
@@ -35,3 +35,10 @@ fold_append step start fs gs = fold-append step start fs gs
 -- the element at a place within
 pub got : {X : Type 0} (xs : List X) (i : ℕ) (x : X) → i < length xs → x ≡ get_or xs i x → slice_get xs i ≡ Some x
 got xs i x within is = slice_get-get_or xs i x within ∙ ap Some (sym is)
+
+stepped : {S F : Type 0} (step : S → F → S) (start : S) (fs : List F) (i : ℕ) (o : Option F) (next : S) → slice_get fs i ≡ o → option_map (step (fold step start (take i fs))) o ≡ Some next → fold step start (take (i + 1) fs) ≡ next
+stepped step start fs i None next h k = absurd cc
+stepped step start fs i (Some f) next h k = fold-more step start fs i f h ∙ same_Some (step (fold step start (take i fs)) f) next k
+
+pub fold-more-by : {S F : Type 0} (step : S → F → S) (start : S) (fs : List F) (i : ℕ) (next : S) → option_map (step (fold step start (take i fs))) (slice_get fs i) ≡ Some next → fold step start (take (i + 1) fs) ≡ next
+fold-more-by step start fs i next k = stepped step start fs i (slice_get fs i) next refl k

@@ -2,11 +2,9 @@ pub mod Accounts
 pub mod Evidence
 pub mod Kept
 pub mod Moments
-pub mod Passwords
 pub mod Places
-pub mod Ranges
 pub mod Realms
 pub mod Secrets
 pub mod Serials
-pub mod Solved
+pub mod Subjects
 pub mod Tabs

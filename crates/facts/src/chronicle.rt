@@ -1,14 +1,16 @@
-ghost use Rattle.std.specs.Prelude.{◌≡◌, ◌+◌, ◌<◌, [], ◌++◌, length, Some, None, IfOk, OnOk, OnErr, slice_get};
+ghost use Rattle.std.specs.Prelude.{◌≡◌, ◌+◌, ◌<◌, ◌≤◌, vec_len, vec_capacity, [], ◌++◌, length, map, option_map, Some, None, IfOk, OnOk, OnErr, slice_get};
 ghost use Rattle.std.specs.Option.{option_copied, option_or};
 ghost use Rattle.facts.specs.Places.{last_of};
 ghost use Rattle.facts.specs.Realms.{current_realm, last_version, realm_put};
 ghost use Rattle.facts.specs.Serials.{last_tab_serial, last_stored_serial, last_known_serial};
+ghost use Rattle.facts.specs.Subjects.{subject_of};
 
 use crate::counters::{KnownSerial, StoredSerial, TabSerial, Version};
 use crate::fact::Fact;
 use crate::fold::fold_in;
 use crate::hold::last_held_in;
 use crate::realm_put::RealmPut;
+use crate::subject::Subject;
 use login_base::{Duplicate, Memory, Steps};
 use realm_data::Realm;
 use std::alloc::Global;
@@ -21,6 +23,9 @@ pub struct Chronicle {
     alloc: Global,
     list: Vec<Fact>,
     waiting: Vec<Fact>,
+    /// The subjects of the facts of both lists.
+    subjects: Vec<Subject>,
+    waiting_subjects: Vec<Subject>,
     /// The last used serials of both counters.
     tab_serial: u64,
     stored_serial: u64,
@@ -38,7 +43,7 @@ impl Model for Chronicle {
     ghost use Rattle.std.specs.Coded.{codes};
     ghost use Rattle.flow_tree.specs.contracts.exec.Exec as exec;
     ghost use Rattle.std.specs.Prelude.{◌≡◌};
-    ghost use Rattle.facts.specs.Kept.{Kept, IsCounted};
+    ghost use Rattle.facts.specs.Kept.{Kept, IsCounted, AreSubjects};
     ghost use Rattle.facts.specs.Places.{last_of};
     ghost use Rattle.facts.specs.Realms.{realm_put};
 
@@ -48,7 +53,7 @@ impl Model for Chronicle {
 
     ghost view = { λ c. record { list = c.list.items; waiting = c.waiting.items } };
 
-    ghost invariant = { λ c. (vec_len c.list + vec_len c.waiting ≤ vec_capacity c.list) × IsCounted c.list.items c.tab_serial c.stored_serial c.known_serial c.version c.realm × (c.waiting_realm ≡ last_of realm_put c.waiting.items) };
+    ghost invariant = { λ c. (vec_len c.list + vec_len c.waiting ≤ vec_capacity c.list) × (vec_len c.subjects + vec_len c.waiting_subjects ≤ vec_capacity c.subjects) × AreSubjects c.subjects.items c.list.items × AreSubjects c.waiting_subjects.items c.waiting.items × IsCounted c.list.items c.tab_serial c.stored_serial c.known_serial c.version c.realm × (c.waiting_realm ≡ last_of realm_put c.waiting.items) };
 }
 
 /// Copies of the facts.
@@ -60,6 +65,17 @@ fn copies(alloc: Global, facts: &[Fact]) -> Result<Vec<Fact>, Memory>
         copies.push(fact.duplicate(alloc)?)?;
     }
     Ok(copies)
+}
+
+/// The subjects of the facts.
+fn subjects(alloc: Global, facts: &[Fact]) -> Result<Vec<Subject>, Memory>
+    ensures { IfOk result (λ subjects. subjects.items ≡ map subject_of facts.now) }
+{
+    let mut subjects = Vec::new(alloc);
+    for fact in facts {
+        subjects.push(Subject::of(fact))?;
+    }
+    Ok(subjects)
 }
 
 /// A copy of the realm that these facts put last.
@@ -82,6 +98,18 @@ fn renew(realm: &mut Option<Realm>, newer: &mut Option<Realm>)
     }
 }
 
+/// Moves items to the end of those for which room was made. It takes no memory.
+fn join<T>(items: &mut Vec<T>, more: &mut Vec<T>)
+    requires room { vec_len items.old + vec_len more.old ≤ vec_capacity items.old }
+    ensures items { items.new.items ≡ items.old.items ++ more.old.items }
+    ensures more { more.new.items ≡ [] }
+    ensures len { vec_len items.new + vec_len more.new ≤ vec_capacity items.new }
+{
+    let Ok(()) = items.append(more) else {
+        unreachable!()
+    };
+}
+
 impl Chronicle {
     /// An empty list, which takes no memory.
     #[tactic(auto, unfolding(crate::specs::Serials::last_tab_serial, crate::specs::Serials::last_stored_serial, crate::specs::Serials::last_known_serial, crate::specs::Realms::last_version, crate::specs::Realms::current_realm))]
@@ -93,6 +121,8 @@ impl Chronicle {
             alloc,
             list: Vec::new(alloc),
             waiting: Vec::new(alloc),
+            subjects: Vec::new(alloc),
+            waiting_subjects: Vec::new(alloc),
             tab_serial: 0,
             stored_serial: 0,
             known_serial: 0,
@@ -117,6 +147,15 @@ impl Chronicle {
     {
         steps.tick();
         &self.list[index]
+    }
+
+    /// Of which tabs the fact at a place can say something. It isn't read for that.
+    #[tactic(auto, using(crate::proofs::SubjectLemmas::subject_at))]
+    pub fn subject(&self, index: usize) -> Subject
+        requires within { index < length self.now.list }
+        ensures value { option_map subject_of (slice_get self.now.list index) ≡ Some result }
+    {
+        self.subjects[index]
     }
 
     /// The last used serial of the counter of roots, tabs and codes.
@@ -161,16 +200,20 @@ impl Chronicle {
         ensures err { OnErr result (self.new.waiting ≡ []) }
     {
         self.waiting.clear();
+        self.waiting_subjects.clear();
         self.waiting_realm = None;
         self.list.reserve(facts.len())?;
+        self.subjects.reserve(facts.len())?;
         let realm = put_realm(self.alloc, facts)?;
+        let subjects = subjects(self.alloc, facts)?;
         self.waiting = copies(self.alloc, facts)?;
+        self.waiting_subjects = subjects;
         self.waiting_realm = realm;
         Ok(())
     }
 
     /// Moves the facts that wait to the end of the list. It takes no memory.
-    #[tactic(auto, using(crate::proofs::SerialLemmas::last_tab_serial_more, crate::proofs::SerialLemmas::last_stored_serial_more, crate::proofs::SerialLemmas::last_known_serial_more, crate::proofs::InForce::last_version_more, crate::proofs::InForce::current_realm_more))]
+    #[tactic(auto, using(crate::proofs::SerialLemmas::last_tab_serial_more, crate::proofs::SerialLemmas::last_stored_serial_more, crate::proofs::SerialLemmas::last_known_serial_more, crate::proofs::InForce::last_version_more, crate::proofs::InForce::current_realm_more, crate::proofs::SubjectLemmas::subjects_joined))]
     pub fn add(&mut self)
         ensures list { self.new.list ≡ self.old.list ++ self.old.waiting }
         ensures waiting { self.new.waiting ≡ [] }
@@ -181,8 +224,7 @@ impl Chronicle {
         self.known_serial = fold_in(waiting, &KnownSerial, self.known_serial);
         self.version = fold_in(waiting, &Version, self.version);
         renew(&mut self.realm, &mut self.waiting_realm);
-        let Ok(()) = self.list.append(&mut self.waiting) else {
-            unreachable!()
-        };
+        join(&mut self.subjects, &mut self.waiting_subjects);
+        join(&mut self.list, &mut self.waiting);
     }
 }

@@ -1,6 +1,5 @@
 use crate::fact::Fact;
-use crate::reply::Reply;
-use crate::solved::Solved;
+use asks::{Reply, Solved};
 use login_base::{Draws, Moment, Sequence};
 
 /// One ask as it was answered. It holds no password.

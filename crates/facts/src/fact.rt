@@ -1,4 +1,4 @@
-use crate::admin::TokenAction;
+use asks::TokenAction;
 use crate::secret::Secret;
 use conditions::SecretKind;
 use lockout::Standing;

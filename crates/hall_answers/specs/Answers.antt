@@ -3,8 +3,8 @@ use Rattle.std.specs.Prelude.{List, [], ◌++◌, Option, Some, None}
 use Rattle.login_base.specs.declared.id.RootKey.{RootKey}
 use Rattle.login_base.specs.declared.id.TabKey.{TabKey}
 use Rattle.facts.specs.declared.fact.Fact.{Fact}
-use Rattle.facts.specs.declared.reply.Reply.{Reply}
-use Rattle.facts.specs.declared.reply.What.{What}
+use Rattle.asks.specs.declared.reply.Reply.{Reply}
+use Rattle.asks.specs.declared.reply.What.{What}
 use Rattle.hall_answers.specs.declared.answer.Answer.{Answer}
 
 -- a reply that names this tab, or none

@@ -3,10 +3,10 @@ use Rattle.std.specs.Prelude.{List, Option, Result, Ok, Err, codes, unwrap_or}
 use Rattle.login_base.specs.declared.id.TabKey.{TabKey}
 use Rattle.login_base.specs.declared.id.UserId.{UserId}
 use Rattle.facts.specs.declared.fact.Fact.{Fact}
-use Rattle.facts.specs.declared.reply.What.{What}
-use Rattle.facts.specs.declared.reply.What.TheVariants as whats
-use Rattle.facts.specs.declared.reply.Who.{Who}
-use Rattle.facts.specs.declared.rule.Rule.TheVariants as rules
+use Rattle.asks.specs.declared.reply.What.{What}
+use Rattle.asks.specs.declared.reply.What.TheVariants as whats
+use Rattle.asks.specs.declared.reply.Who.{Who}
+use Rattle.asks.specs.declared.rule.Rule.TheVariants as rules
 use Rattle.facts.specs.Accounts.{name_of}
 use Rattle.hall_answers.specs.declared.answer.Answer.{Answer}
 use Rattle.hall_answers.specs.declared.refusal.Refusal.{Refusal}

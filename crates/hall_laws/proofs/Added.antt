@@ -10,18 +10,18 @@ use Rattle.login_base.specs.declared.id.RootKey.{RootKey}
 use Rattle.login_base.specs.declared.id.SessionId.{SessionId}
 use Rattle.login_base.specs.declared.id.TabKey.{TabKey}
 use Rattle.login_base.specs.declared.id.UserId.{UserId}
-use Rattle.facts.specs.declared.admin.AdminVerb.{AdminVerb}
-use Rattle.facts.specs.declared.admin.AdminVerb.TheVariants as verbs
-use Rattle.facts.specs.declared.admin.NewUser.{NewUser}
-use Rattle.facts.specs.declared.ask.Access.{Access}
-use Rattle.facts.specs.declared.ask.Ask.{Ask}
-use Rattle.facts.specs.declared.ask.Ask.TheVariants as asks
-use Rattle.facts.specs.declared.ask.NewTab.{NewTab}
-use Rattle.facts.specs.declared.ask.Post.{Post}
+use Rattle.asks.specs.declared.admin.AdminVerb.{AdminVerb}
+use Rattle.asks.specs.declared.admin.AdminVerb.TheVariants as verbs
+use Rattle.asks.specs.declared.admin.NewUser.{NewUser}
+use Rattle.asks.specs.declared.ask.Access.{Access}
+use Rattle.asks.specs.declared.ask.Ask.{Ask}
+use Rattle.asks.specs.declared.ask.Ask.TheVariants as asks
+use Rattle.asks.specs.declared.ask.NewTab.{NewTab}
+use Rattle.asks.specs.declared.ask.Post.{Post}
 use Rattle.facts.specs.declared.fact.Fact.{Fact}
 use Rattle.facts.specs.declared.fact.Fact.TheVariants as events
-use Rattle.facts.specs.declared.finding.Finding.{Finding}
-use Rattle.facts.specs.declared.finding.Finding.TheVariants as findings
+use Rattle.asks.specs.declared.finding.Finding.{Finding}
+use Rattle.asks.specs.declared.finding.Finding.TheVariants as findings
 use Rattle.facts.specs.declared.secret.Secret.{Secret}
 use Rattle.facts.specs.declared.secret.Secret.TheVariants as secrets
 use Rattle.facts.specs.Tabs.{live_session}

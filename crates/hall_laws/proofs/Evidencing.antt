@@ -7,12 +7,12 @@ use Rattle.std.proofs.lemmas.List.Elements.{All-nil, All-cons}
 use Rattle.login_base.specs.IdText.{same_id}
 use Rattle.login_base.specs.declared.id.Code.{Code}
 use Rattle.login_base.specs.declared.id.Id.{Id}
-use Rattle.facts.specs.declared.ask.Ask.{Ask}
-use Rattle.facts.specs.declared.ask.Form.{Form}
-use Rattle.facts.specs.declared.ask.Form.TheVariants as forms
-use Rattle.facts.specs.declared.ask.Post.{Post}
+use Rattle.asks.specs.declared.ask.Ask.{Ask}
+use Rattle.asks.specs.declared.ask.Form.{Form}
+use Rattle.asks.specs.declared.ask.Form.TheVariants as forms
+use Rattle.asks.specs.declared.ask.Post.{Post}
 use Rattle.facts.specs.declared.fact.Fact.{Fact}
-use Rattle.facts.specs.declared.finding.Finding.{Finding}
+use Rattle.asks.specs.declared.finding.Finding.{Finding}
 use Rattle.hall_answers.specs.Setting.{Setting}
 use Rattle.tab_asks.specs.declared.passing.Passing.{Passing}
 use Rattle.flow_tree.specs.declared.exec.Kind.TheVariants as kinds

@@ -4,13 +4,13 @@ use Rattle.std.specs.Prelude.{Option, Result, Ok, ◌↔◌}
 use Rattle.login_base.specs.declared.id.RootKey.{RootKey}
 use Rattle.login_base.specs.declared.id.TabKey.{TabKey}
 use Rattle.login_base.specs.declared.id.UserId.{UserId}
-use Rattle.facts.specs.declared.ask.Form.{Form}
-use Rattle.facts.specs.declared.ask.Form.TheVariants as forms
-use Rattle.facts.specs.declared.ask.Post.{Post}
+use Rattle.asks.specs.declared.ask.Form.{Form}
+use Rattle.asks.specs.declared.ask.Form.TheVariants as forms
+use Rattle.asks.specs.declared.ask.Post.{Post}
 use Rattle.facts.specs.declared.fact.Fact.{Fact}
-use Rattle.facts.specs.declared.finding.Finding.{Finding}
-use Rattle.facts.specs.declared.finding.Finding.TheVariants as findings
-use Rattle.facts.specs.declared.reply.Need.{Need}
+use Rattle.asks.specs.declared.finding.Finding.{Finding}
+use Rattle.asks.specs.declared.finding.Finding.TheVariants as findings
+use Rattle.asks.specs.declared.reply.Need.{Need}
 use Rattle.facts.specs.declared.tabs.Opening.{Opening}
 use Rattle.facts.specs.declared.tabs.TabState.{TabState}
 use Rattle.facts.specs.declared.user_password.UserPassword.{UserPassword}

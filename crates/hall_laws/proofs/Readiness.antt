@@ -7,9 +7,9 @@ use Rattle.login_base.specs.declared.id.UserId.{UserId}
 use Rattle.flow_tree.specs.declared.exec.Exec.{Exec}
 use Rattle.flow_tree.specs.Flow.{flow_holds, flow_needs}
 use Rattle.realm_data.specs.declared.realm_parts.RealmParts.{RealmParts}
-use Rattle.facts.specs.declared.ask.NewTab.{NewTab}
+use Rattle.asks.specs.declared.ask.NewTab.{NewTab}
 use Rattle.facts.specs.declared.fact.Fact.{Fact}
-use Rattle.facts.specs.declared.reply.Need.{Need}
+use Rattle.asks.specs.declared.reply.Need.{Need}
 use Rattle.facts.specs.declared.tabs.Opening.{Opening}
 use Rattle.facts.specs.Realms.{realm_of}
 use Rattle.facts.specs.Tabs.{tab_state, live_session, who_of}

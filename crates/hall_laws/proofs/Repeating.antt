@@ -10,12 +10,12 @@ use Rattle.login_base.specs.declared.id.RootKey.{RootKey}
 use Rattle.login_base.specs.declared.id.SessionId.{SessionId}
 use Rattle.login_base.specs.declared.id.TabKey.{TabKey}
 use Rattle.login_base.specs.declared.id.UserId.{UserId}
-use Rattle.facts.specs.declared.ask.Form.{Form}
-use Rattle.facts.specs.declared.ask.Form.TheVariants as forms
-use Rattle.facts.specs.declared.ask.Post.{Post}
+use Rattle.asks.specs.declared.ask.Form.{Form}
+use Rattle.asks.specs.declared.ask.Form.TheVariants as forms
+use Rattle.asks.specs.declared.ask.Post.{Post}
 use Rattle.facts.specs.declared.fact.Fact.{Fact}
 use Rattle.facts.specs.declared.fact.Fact.TheVariants as events
-use Rattle.facts.specs.declared.finding.Finding.{Finding}
+use Rattle.asks.specs.declared.finding.Finding.{Finding}
 use Rattle.facts.specs.declared.tabs.Opening.{Opening}
 use Rattle.facts.specs.declared.tabs.RootSession.{RootSession}
 use Rattle.facts.specs.declared.tabs.TabState.{TabState}

@@ -8,8 +8,8 @@ use Rattle.login_base.specs.declared.id.Id.{Id}
 use Rattle.login_base.specs.declared.id.RootKey.{RootKey}
 use Rattle.login_base.specs.declared.id.TabKey.{TabKey}
 use Rattle.login_base.specs.declared.id.UserId.{UserId}
-use Rattle.facts.specs.declared.ask.Form.{Form}
-use Rattle.facts.specs.declared.ask.Form.TheVariants as forms
+use Rattle.asks.specs.declared.ask.Form.{Form}
+use Rattle.asks.specs.declared.ask.Form.TheVariants as forms
 use Rattle.facts.specs.declared.fact.Fact.{Fact}
 use Rattle.facts.specs.declared.tabs.TabState.{TabState}
 use Rattle.facts.specs.Accounts.{disabled_by, is_disabled}

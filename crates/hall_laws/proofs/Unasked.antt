@@ -13,11 +13,11 @@ use Rattle.flow_tree.specs.declared.exec.Kind.TheVariants as kinds
 use Rattle.flow_tree.specs.Flow.{flow_holds, flow_needs}
 use Rattle.flow_tree.specs.Places.{places, kind_among}
 use Rattle.realm_data.specs.declared.realm_parts.RealmParts.{RealmParts}
-use Rattle.facts.specs.declared.ask.Form.{Form}
-use Rattle.facts.specs.declared.ask.Form.TheVariants as forms
+use Rattle.asks.specs.declared.ask.Form.{Form}
+use Rattle.asks.specs.declared.ask.Form.TheVariants as forms
 use Rattle.facts.specs.declared.fact.Fact.{Fact}
-use Rattle.facts.specs.declared.finding.Finding.{Finding}
-use Rattle.facts.specs.declared.reply.Need.{Need}
+use Rattle.asks.specs.declared.finding.Finding.{Finding}
+use Rattle.asks.specs.declared.reply.Need.{Need}
 use Rattle.facts.specs.declared.tabs.RootSession.{RootSession}
 use Rattle.facts.specs.declared.tabs.TabState.{TabState}
 use Rattle.facts.specs.declared.user_password.UserPassword.{UserPassword}

@@ -5,13 +5,13 @@ use Rattle.login_base.specs.declared.id.TabKey.{TabKey}
 use Rattle.login_base.specs.declared.id.UserId.{UserId}
 use Rattle.flow_tree.specs.Flow.{flow_holds}
 use Rattle.realm_data.specs.declared.realm_parts.RealmParts.{RealmParts}
-use Rattle.facts.specs.declared.ask.NewTab.{NewTab}
-use Rattle.facts.specs.declared.ask.Post.{Post}
+use Rattle.asks.specs.declared.ask.NewTab.{NewTab}
+use Rattle.asks.specs.declared.ask.Post.{Post}
 use Rattle.facts.specs.declared.fact.Fact.{Fact}
-use Rattle.facts.specs.declared.finding.Finding.{Finding}
-use Rattle.facts.specs.declared.reply.Need.{Need}
-use Rattle.facts.specs.declared.reply.What.{What}
-use Rattle.facts.specs.declared.reply.What.TheVariants as whats
+use Rattle.asks.specs.declared.finding.Finding.{Finding}
+use Rattle.asks.specs.declared.reply.Need.{Need}
+use Rattle.asks.specs.declared.reply.What.{What}
+use Rattle.asks.specs.declared.reply.What.TheVariants as whats
 use Rattle.facts.specs.declared.tabs.Opening.{Opening}
 use Rattle.facts.specs.declared.tabs.RootSession.{RootSession}
 use Rattle.facts.specs.Accounts.{is_disabled}

@@ -4,9 +4,9 @@ use Rattle.std.specs.List.{All}
 use Rattle.login_base.specs.declared.id.TabKey.{TabKey}
 use Rattle.facts.specs.declared.fact.Fact.{Fact}
 use Rattle.facts.specs.declared.fact.Fact.TheVariants as events
-use Rattle.facts.specs.declared.reply.Reply.{Reply}
-use Rattle.facts.specs.declared.reply.What.{What}
-use Rattle.facts.specs.declared.reply.What.TheVariants as whats
+use Rattle.asks.specs.declared.reply.Reply.{Reply}
+use Rattle.asks.specs.declared.reply.What.{What}
+use Rattle.asks.specs.declared.reply.What.TheVariants as whats
 use Rattle.facts.specs.Serials.{last_tab_serial}
 use Rattle.hall_answers.specs.declared.answer.Answer.{Answer}
 use Rattle.hall_answers.specs.Answers.{in_tab, only}

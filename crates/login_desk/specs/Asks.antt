@@ -8,12 +8,12 @@ use Rattle.login_base.specs.IdText.{id_of}
 use Rattle.login_base.specs.Names.{is_name}
 use Rattle.login_base.specs.declared.id.Id.{Id}
 use Rattle.login_base.specs.declared.id.RootKey.{RootKey}
-use Rattle.facts.specs.declared.admin.AdminVerb.TheVariants as verbs
-use Rattle.facts.specs.declared.ask.Access.TheVariants as accesses
-use Rattle.facts.specs.declared.ask.Ask.{Ask}
-use Rattle.facts.specs.declared.ask.Ask.TheVariants as asks
-use Rattle.facts.specs.declared.ask.Form.{Form}
-use Rattle.facts.specs.declared.ask.Form.TheVariants as forms
+use Rattle.asks.specs.declared.admin.AdminVerb.TheVariants as verbs
+use Rattle.asks.specs.declared.ask.Access.TheVariants as accesses
+use Rattle.asks.specs.declared.ask.Ask.{Ask}
+use Rattle.asks.specs.declared.ask.Ask.TheVariants as asks
+use Rattle.asks.specs.declared.ask.Form.{Form}
+use Rattle.asks.specs.declared.ask.Form.TheVariants as forms
 use Rattle.login_desk.specs.declared.pairs.Pair.{Pair}
 use Rattle.login_desk.specs.declared.place.Place.{Place}
 use Rattle.login_desk.specs.declared.place.Place.TheVariants as places

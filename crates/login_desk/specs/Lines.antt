@@ -3,7 +3,7 @@ use Rattle.std.specs.Prelude.{◌≢◌, ℕ, ◌+◌, ◌-◌, ◌^◌, ◌%◌
 use Rattle.std.specs.List.{flat_map, AllByRecursion}
 use Rattle.form_urlencoded.specs.Form.{split_once}
 use Rattle.login_base.specs.declared.draws.Draws.{Draws}
-use Rattle.facts.specs.declared.ask.Ask.TheVariants as asks
+use Rattle.asks.specs.declared.ask.Ask.TheVariants as asks
 use Rattle.login_desk.specs.declared.lines.LineAsk.{LineAsk}
 use Rattle.login_desk.specs.Asks.{verb_ask}
 use Rattle.login_desk.specs.Numbers.{number}

@@ -4,7 +4,7 @@ use Rattle.facts.specs.declared.entry.Entry.{Entry}
 use Rattle.facts.specs.declared.fact.Fact.{Fact}
 use Rattle.facts.specs.declared.fact.Fact.TheVariants as events
 use Rattle.realm_data.specs.RealmBuiltin.{builtin_realm}
-use Rattle.facts.specs.Solved.{SolvedAsk}
+use Rattle.asks.specs.Solved.{SolvedAsk}
 use Rattle.reply_words.specs.Words.{words}
 use Rattle.login_base.specs.declared.draws.Draws.{Draws}
 use Rattle.login_hall.specs.Found.{solved_of}

@@ -1,5 +1,5 @@
 ghost use Rattle.std.specs.Prelude.{◌≡◌, IfOk, IsTrue};
-ghost use Rattle.facts.specs.declared.ask.Ask.TheVariants as asks;
+ghost use Rattle.asks.specs.declared.ask.Ask.TheVariants as asks;
 ghost use Rattle.login_base.specs.Names.{is_name};
 ghost use Rattle.login_desk.specs.Asks.{ask_or_bad};
 ghost use Rattle.login_desk.specs.Places.{place_text};

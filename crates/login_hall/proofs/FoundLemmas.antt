@@ -2,16 +2,16 @@
 use Rattle.std.proofs.Common.{◌≡◌, ℕ, true, List, Some, None, refl, sym, ap, ◌∙◌}
 use Rattle.std.specs.Prelude.{Option}
 use Rattle.login_base.specs.declared.draws.Draws.{Draws}
-use Rattle.facts.specs.declared.ask.Ask.{Ask}
-use Rattle.facts.specs.declared.finding.Finding.{Finding}
-use Rattle.facts.specs.declared.finding.PasswordUse.{PasswordUse}
-use Rattle.facts.specs.declared.finding.PasswordUse.TheVariants as uses
+use Rattle.asks.specs.declared.ask.Ask.{Ask}
+use Rattle.asks.specs.declared.finding.Finding.{Finding}
+use Rattle.asks.specs.declared.finding.PasswordUse.{PasswordUse}
+use Rattle.asks.specs.declared.finding.PasswordUse.TheVariants as uses
 use Rattle.facts.specs.declared.user_password.UserPassword.{UserPassword}
-use Rattle.facts.specs.Passwords.{password_use, password_text, emptied, is_solved, is_finding_of}
+use Rattle.asks.specs.Passwords.{password_use, password_text, emptied, is_solved, is_finding_of}
 use Rattle.facts.specs.declared.fact.Fact.{Fact}
-use Rattle.facts.specs.declared.finding.Finding.TheVariants as findings
-use Rattle.facts.specs.Solved.{SolvedAsk}
-use Rattle.facts.proofs.PasswordLemmas.{emptied_ask, emptied_plain}
+use Rattle.asks.specs.declared.finding.Finding.TheVariants as findings
+use Rattle.asks.specs.Solved.{SolvedAsk}
+use Rattle.asks.proofs.PasswordLemmas.{emptied_ask, emptied_plain}
 use Rattle.login_hall.specs.declared.task.Task.{Task}
 use Rattle.login_hall.specs.declared.task.Task.TheVariants as tasks
 use Rattle.admin_asks.specs.UserAdd.{IsKeepable}

@@ -1,10 +1,10 @@
 -- How far an ask raises the counters.
 use Rattle.std.proofs.Common.{ℕ, ◌≤◌, List, ◌++◌, arith}
-use Rattle.facts.specs.declared.ask.Ask.{Ask}
-use Rattle.facts.specs.declared.ask.Ask.TheVariants as asks
+use Rattle.asks.specs.declared.ask.Ask.{Ask}
+use Rattle.asks.specs.declared.ask.Ask.TheVariants as asks
 use Rattle.facts.specs.declared.fact.Fact.{Fact}
-use Rattle.facts.specs.declared.finding.Finding.{Finding}
-use Rattle.facts.specs.Solved.{SolvedAsk}
+use Rattle.asks.specs.declared.finding.Finding.{Finding}
+use Rattle.asks.specs.Solved.{SolvedAsk}
 use Rattle.hall_answers.specs.Setting.{Setting, setting_at}
 use Rattle.login_base.specs.declared.draws.Draws.{Draws}
 use Rattle.hall_answers.proofs.Lifts.{Lifts, nothing}

@@ -1,6 +1,6 @@
 -- What the beginning of an ask comes to.
 use Rattle.std.specs.Prelude.{Bool, true, false}
-use Rattle.facts.specs.Solved.{SolvedAsk}
+use Rattle.asks.specs.Solved.{SolvedAsk}
 use Rattle.login_hall.specs.declared.begun.Begun.{Begun}
 use Rattle.login_hall.specs.declared.begun.Begun.TheVariants as begins
 

@@ -1,12 +1,12 @@
 -- What an ask is due over a chronicle: the one right reply, and the facts that it adds.
 use Rattle.std.specs.Prelude.{ℕ, List, None}
 use Rattle.login_base.specs.declared.draws.Draws.{Draws}
-use Rattle.facts.specs.declared.ask.Ask.{Ask}
-use Rattle.facts.specs.declared.ask.Ask.TheVariants as asks
+use Rattle.asks.specs.declared.ask.Ask.{Ask}
+use Rattle.asks.specs.declared.ask.Ask.TheVariants as asks
 use Rattle.facts.specs.declared.fact.Fact.{Fact}
-use Rattle.facts.specs.declared.finding.Finding.{Finding}
-use Rattle.facts.specs.declared.reply.What.TheVariants as whats
-use Rattle.facts.specs.Solved.{SolvedAsk}
+use Rattle.asks.specs.declared.finding.Finding.{Finding}
+use Rattle.asks.specs.declared.reply.What.TheVariants as whats
+use Rattle.asks.specs.Solved.{SolvedAsk}
 use Rattle.hall_answers.specs.declared.answer.Answer.{Answer}
 use Rattle.hall_answers.specs.Answers.{only}
 use Rattle.hall_answers.specs.Setting.{Setting, setting_at}

@@ -6,20 +6,20 @@ use Rattle.login_base.specs.declared.id.RootKey.{RootKey}
 use Rattle.login_base.specs.declared.id.TabKey.{TabKey}
 use Rattle.login_base.specs.declared.id.UserId.{UserId}
 use Rattle.login_base.specs.declared.draws.Draws.{Draws}
-use Rattle.facts.specs.declared.ask.Ask.{Ask}
-use Rattle.facts.specs.declared.ask.Ask.TheVariants as asks
-use Rattle.facts.specs.declared.ask.Form.{Form}
+use Rattle.asks.specs.declared.ask.Ask.{Ask}
+use Rattle.asks.specs.declared.ask.Ask.TheVariants as asks
+use Rattle.asks.specs.declared.ask.Form.{Form}
 use Rattle.facts.specs.declared.fact.Fact.{Fact}
-use Rattle.facts.specs.declared.finding.Finding.{Finding}
-use Rattle.facts.specs.declared.finding.Finding.TheVariants as findings
-use Rattle.facts.specs.declared.finding.PasswordUse.{PasswordUse}
-use Rattle.facts.specs.declared.finding.PasswordUse.TheVariants as uses
+use Rattle.asks.specs.declared.finding.Finding.{Finding}
+use Rattle.asks.specs.declared.finding.Finding.TheVariants as findings
+use Rattle.asks.specs.declared.finding.PasswordUse.{PasswordUse}
+use Rattle.asks.specs.declared.finding.PasswordUse.TheVariants as uses
 use Rattle.facts.specs.declared.user_password.UserPassword.{UserPassword}
 use Rattle.facts.specs.declared.tabs.Opening.{Opening}
 use Rattle.facts.specs.declared.tabs.TabState.{TabState}
 use Rattle.realm_data.specs.PasswordHash.{is_iterations}
-use Rattle.facts.specs.Passwords.{password_use, password_text, emptied}
-use Rattle.facts.specs.Solved.{SolvedAsk}
+use Rattle.asks.specs.Passwords.{password_use, password_text, emptied}
+use Rattle.asks.specs.Solved.{SolvedAsk}
 use Rattle.facts.specs.Tabs.{tab_state, who_of}
 use Rattle.mac_kit.specs.Pbkdf2.{pbkdf2_sha256}
 use Rattle.hall_answers.specs.Setting.{realm_now}

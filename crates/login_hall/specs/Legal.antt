@@ -5,7 +5,7 @@ use Rattle.facts.specs.declared.entry.Entry.{Entry}
 use Rattle.facts.specs.declared.fact.Fact.{Fact}
 use Rattle.facts.specs.Realms.{last_version}
 use Rattle.facts.specs.Serials.{last_tab_serial, last_stored_serial}
-use Rattle.facts.specs.Solved.{SolvedAsk}
+use Rattle.asks.specs.Solved.{SolvedAsk}
 use Rattle.login_hall.specs.Due.{due}
 use Rattle.login_hall.specs.Growth.{chronicle_of, last_moment, next_moment}
 

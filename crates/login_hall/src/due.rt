@@ -1,5 +1,5 @@
 ghost use Rattle.std.specs.Prelude.{◌≡◌, ◌-◌, ◌^◌, IfOk};
-ghost use Rattle.facts.specs.declared.reply.What.TheVariants as whats;
+ghost use Rattle.asks.specs.declared.reply.What.TheVariants as whats;
 ghost use Rattle.hall_answers.specs.Answers.{only};
 ghost use Rattle.hall_answers.specs.HasSerials.{HasSerials};
 ghost use Rattle.login_hall.specs.Due.{due_ask};

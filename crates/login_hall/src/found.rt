@@ -1,7 +1,7 @@
 ghost use Rattle.std.specs.Prelude.{◌≡◌, ◌<◌, true};
-ghost use Rattle.facts.specs.declared.finding.Finding.TheVariants as findings;
-ghost use Rattle.facts.specs.declared.finding.PasswordUse.TheVariants.{NoPassword};
-ghost use Rattle.facts.specs.Passwords.{password_use, password_text, emptied, is_solved};
+ghost use Rattle.asks.specs.declared.finding.Finding.TheVariants as findings;
+ghost use Rattle.asks.specs.declared.finding.PasswordUse.TheVariants.{NoPassword};
+ghost use Rattle.asks.specs.Passwords.{password_use, password_text, emptied, is_solved};
 ghost use Rattle.facts.specs.Realms.{has_realm};
 ghost use Rattle.hall_answers.specs.Setting.{realm_now};
 ghost use Rattle.login_base.specs.Steps.{IsBlank};

@@ -1,6 +1,6 @@
 ghost use Rattle.std.specs.Prelude.{◌≡◌, ◌<◌, ◌≤◌, ◌+◌, ◌-◌, ◌^◌, [], ◌∷◌, ◌++◌, ◌↔◌, IsTrue, true, OnOk, IfOk, vec_len, vec_capacity};
 ghost use Rattle.facts.specs.declared.fact.Fact.TheVariants.{Mark};
-ghost use Rattle.facts.specs.Passwords.{password_use};
+ghost use Rattle.asks.specs.Passwords.{password_use};
 ghost use Rattle.facts.specs.Realms.{has_realm, last_version};
 ghost use Rattle.facts.specs.Serials.{last_stored_serial};
 ghost use Rattle.login_hall.specs.Begun.{solution_of, is_work};

@@ -22,8 +22,8 @@ impl Model for Work {
     ghost use Rattle.std.specs.Prelude.{IsTrue};
     ghost use Rattle.std.specs.Coded.{codes};
     ghost use Rattle.flow_tree.specs.contracts.exec.Exec as exec;
-    ghost use Rattle.facts.specs.Passwords.{is_solved};
-    ghost use Rattle.facts.specs.Solved.{SolvedAsk};
+    ghost use Rattle.asks.specs.Passwords.{is_solved};
+    ghost use Rattle.asks.specs.Solved.{SolvedAsk};
     ghost use Rattle.login_hall.specs.Found.{finding_of, HasRounds};
 
     ghost Value = { SolvedAsk };

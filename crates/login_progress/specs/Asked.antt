@@ -8,7 +8,7 @@ use Rattle.flow_tree.specs.declared.exec.Exec.{Exec}
 use Rattle.flow_tree.specs.declared.exec.Kind.{Kind}
 use Rattle.flow_tree.specs.declared.exec.Kind.TheVariants as kinds
 use Rattle.flow_tree.specs.Places.{places, kind_among, same_kind}
-use Rattle.facts.specs.declared.reply.Need.{Need}
+use Rattle.asks.specs.declared.reply.Need.{Need}
 use Rattle.login_progress.specs.declared.progress.Progress.{Progress}
 use Rattle.login_progress.specs.declared.progress.Progress.TheVariants.{Denied, NotConfigured, DeadEnd}
 use Rattle.login_progress.specs.Account.{holds}

@@ -8,7 +8,7 @@ use Rattle.flow_tree.specs.Flow.{flow_holds, flow_needs}
 use Rattle.flow_tree.specs.Leaves.{leaves_of}
 use Rattle.realm_data.specs.declared.realm_parts.RealmParts.{RealmParts}
 use Rattle.facts.specs.declared.fact.Fact.{Fact}
-use Rattle.facts.specs.declared.reply.Need.{Need}
+use Rattle.asks.specs.declared.reply.Need.{Need}
 use Rattle.facts.specs.Realms.{realm_of}
 use Rattle.facts.specs.Tabs.{who_of}
 use Rattle.login_progress.specs.declared.known_tab.KnownTab.{KnownTab}

@@ -9,15 +9,15 @@ use Rattle.realm_data.specs.declared.action.Action.{Action}
 use Rattle.realm_data.specs.declared.action.Action.TheVariants as actions
 use Rattle.flow_tree.specs.declared.exec.Kind.{Kind}
 use Rattle.flow_tree.specs.declared.exec.Kind.TheVariants as kinds
-use Rattle.facts.specs.declared.rule.Rule.{Rule}
-use Rattle.facts.specs.declared.rule.Rule.TheVariants as rules
-use Rattle.facts.specs.declared.reply.Need.{Need}
-use Rattle.facts.specs.declared.reply.Next.{Next}
-use Rattle.facts.specs.declared.reply.Next.TheVariants as nexts
-use Rattle.facts.specs.declared.reply.Reply.{Reply}
-use Rattle.facts.specs.declared.reply.What.{What}
-use Rattle.facts.specs.declared.reply.What.TheVariants as whats
-use Rattle.facts.specs.declared.reply.Who.{Who}
+use Rattle.asks.specs.declared.rule.Rule.{Rule}
+use Rattle.asks.specs.declared.rule.Rule.TheVariants as rules
+use Rattle.asks.specs.declared.reply.Need.{Need}
+use Rattle.asks.specs.declared.reply.Next.{Next}
+use Rattle.asks.specs.declared.reply.Next.TheVariants as nexts
+use Rattle.asks.specs.declared.reply.Reply.{Reply}
+use Rattle.asks.specs.declared.reply.What.{What}
+use Rattle.asks.specs.declared.reply.What.TheVariants as whats
+use Rattle.asks.specs.declared.reply.Who.{Who}
 
 -- ---- names
 
@@ -31,6 +31,7 @@ rule_words rules.AccountDisabled = codes "AccountDisabled"
 rule_words rules.TooManyTokens = codes "TooManyTokens"
 rule_words rules.NoSuchSession = codes "NoSuchSession"
 rule_words rules.RealmRefused = codes "RealmRefused"
+rule_words rules.NotYet = codes "NotYet"
 
 abbrev pub kind_words : Kind → List ℕ
 kind_words kinds.Allow = codes "allow"

@@ -1,5 +1,6 @@
 use crate::words_of;
-use facts::{Action, Need, Next, Reply, Rule, What, Who};
+use realm_data::Action;
+use asks::{Need, Next, Reply, Rule, What, Who};
 use flow_tree::Kind;
 use login_base::{
     Code, Id, Memory, Name, RootKey, Sequence, SessionId, TabKey, UserId, discard, read_name,
@@ -28,6 +29,7 @@ const RULES: [(Rule, &str); 9] = [
     (Rule::TooManyTokens, "TooManyTokens"),
     (Rule::NoSuchSession, "NoSuchSession"),
     (Rule::RealmRefused, "RealmRefused"),
+    (Rule::NotYet, "NotYet"),
 ];
 
 const KINDS: [(Kind, &str); 8] = [

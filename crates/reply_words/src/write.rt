@@ -4,7 +4,8 @@ ghost use Rattle.reply_words.specs.Words.{rule_words, kind_words, action_words, 
 ghost use Rattle.login_base.specs.IdText.{id_bytes};
 
 use crate::text::{add, add_field, add_fields, add_id, add_number};
-use facts::{Action, Need, Next, Reply, Rule, What, Who};
+use realm_data::Action;
+use asks::{Need, Next, Reply, Rule, What, Who};
 use flow_tree::Kind;
 use login_base::{Code, Memory, Sequence, SessionId, id_text};
 use std::alloc::Global;
@@ -22,6 +23,7 @@ fn rule_words(rule: Rule) -> &'static [u8]
         Rule::TooManyTokens => b"TooManyTokens",
         Rule::NoSuchSession => b"NoSuchSession",
         Rule::RealmRefused => b"RealmRefused",
+        Rule::NotYet => b"NotYet",
     }
 }
 

@@ -7,11 +7,11 @@ use Rattle.login_base.specs.declared.id.UserId.{UserId}
 use Rattle.flow_tree.specs.declared.exec.Kind.{Kind}
 use Rattle.flow_tree.specs.declared.exec.Kind.TheVariants as kinds
 use Rattle.flow_tree.specs.Places.{same_kind}
-use Rattle.facts.specs.declared.ask.Form.{Form}
-use Rattle.facts.specs.declared.ask.Form.TheVariants as forms
+use Rattle.asks.specs.declared.ask.Form.{Form}
+use Rattle.asks.specs.declared.ask.Form.TheVariants as forms
 use Rattle.facts.specs.declared.fact.Fact.{Fact}
 use Rattle.facts.specs.declared.fact.Fact.TheVariants as events
-use Rattle.facts.specs.declared.reply.Need.{Need}
+use Rattle.asks.specs.declared.reply.Need.{Need}
 use Rattle.facts.specs.Accounts.{account_named}
 use Rattle.tab_asks.specs.declared.passing.Passing.{Passing}
 

@@ -5,7 +5,7 @@ use Rattle.login_base.specs.declared.id.RootKey.{RootKey}
 use Rattle.login_base.specs.declared.id.TabKey.{TabKey}
 use Rattle.realm_data.specs.declared.realm_parts.Client.{Client}
 use Rattle.realm_data.specs.declared.realm_parts.RealmParts.{RealmParts}
-use Rattle.facts.specs.declared.ask.NewTab.{NewTab}
+use Rattle.asks.specs.declared.ask.NewTab.{NewTab}
 use Rattle.facts.specs.declared.fact.Fact.{Fact}
 use Rattle.facts.specs.declared.fact.Fact.TheVariants as events
 use Rattle.facts.specs.declared.tabs.Opening.{Opening}

@@ -8,8 +8,8 @@ use Rattle.login_base.specs.declared.id.UserId.{UserId}
 use Rattle.login_base.specs.declared.draws.Draws.{Draws}
 use Rattle.facts.specs.declared.fact.Fact.{Fact}
 use Rattle.facts.specs.declared.fact.Fact.TheVariants as events
-use Rattle.facts.specs.declared.reply.Need.{Need}
-use Rattle.facts.specs.declared.reply.What.TheVariants as whats
+use Rattle.asks.specs.declared.reply.Need.{Need}
+use Rattle.asks.specs.declared.reply.What.TheVariants as whats
 use Rattle.facts.specs.declared.tabs.RootSession.{RootSession}
 use Rattle.facts.specs.Tabs.{live_session}
 use Rattle.hall_answers.specs.declared.answer.Answer.{Answer}

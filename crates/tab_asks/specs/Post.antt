@@ -5,17 +5,17 @@ use Rattle.login_base.specs.IdText.{same_id}
 use Rattle.login_base.specs.declared.id.Code.{Code}
 use Rattle.login_base.specs.declared.id.TabKey.{TabKey}
 use Rattle.login_base.specs.declared.id.UserId.{UserId}
-use Rattle.facts.specs.declared.ask.Form.{Form}
-use Rattle.facts.specs.declared.ask.Form.TheVariants as forms
-use Rattle.facts.specs.declared.ask.Post.{Post}
+use Rattle.asks.specs.declared.ask.Form.{Form}
+use Rattle.asks.specs.declared.ask.Form.TheVariants as forms
+use Rattle.asks.specs.declared.ask.Post.{Post}
 use Rattle.facts.specs.declared.fact.Fact.{Fact}
 use Rattle.facts.specs.declared.fact.Fact.TheVariants as events
-use Rattle.facts.specs.declared.finding.Finding.{Finding}
-use Rattle.facts.specs.declared.finding.Finding.TheVariants as findings
+use Rattle.asks.specs.declared.finding.Finding.{Finding}
+use Rattle.asks.specs.declared.finding.Finding.TheVariants as findings
 use Rattle.facts.specs.declared.user_password.UserPassword.{UserPassword}
-use Rattle.facts.specs.declared.reply.Need.{Need}
-use Rattle.facts.specs.declared.reply.Next.TheVariants as nexts
-use Rattle.facts.specs.declared.reply.What.TheVariants as whats
+use Rattle.asks.specs.declared.reply.Need.{Need}
+use Rattle.asks.specs.declared.reply.Next.TheVariants as nexts
+use Rattle.asks.specs.declared.reply.What.TheVariants as whats
 use Rattle.facts.specs.Tabs.{live_session, who_of, tab_state}
 use Rattle.hall_answers.specs.declared.answer.Answer.{Answer}
 use Rattle.hall_answers.specs.declared.refusal.Refusal.{Refusal}

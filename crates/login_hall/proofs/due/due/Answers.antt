@@ -1,5 +1,5 @@
 use Rattle.std.proofs.Common.{rules}
-use Rattle.facts.specs.Passwords.{password_use}
+use Rattle.asks.specs.Passwords.{password_use}
 use Rattle.login_hall.proofs.FoundLemmas.{is_keepable}
 use Rattle.login_hall.proofs.due.due.Goals as goal
 

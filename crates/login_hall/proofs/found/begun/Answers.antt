@@ -1,5 +1,5 @@
 use Rattle.std.proofs.Common.{sym, subst, ◌∙◌}
-use Rattle.facts.specs.Passwords.{password_use}
+use Rattle.asks.specs.Passwords.{password_use}
 use Rattle.login_hall.specs.Found.{target_password, MayHave}
 use Rattle.hall_answers.specs.Setting.{realm_now}
 use Rattle.login_hall.proofs.FoundLemmas.{work_is_solved, task_none, task_some, solved_some, solved_none}

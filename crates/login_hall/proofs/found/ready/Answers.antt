@@ -1,5 +1,5 @@
 use Rattle.std.proofs.Common.{◌≡◌}
-use Rattle.facts.proofs.PasswordLemmas.{plain_is_solved}
+use Rattle.asks.proofs.PasswordLemmas.{plain_is_solved}
 use Rattle.login_hall.proofs.found.ready.Goals as goal
 
 pub returns : goal.returns

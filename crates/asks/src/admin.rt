@@ -1,5 +1,5 @@
 ghost use Rattle.std.specs.Prelude.{◌≡◌, Some, None, if◌then◌else◌};
-ghost use Rattle.facts.specs.Ranges.{is_life};
+ghost use Rattle.asks.specs.Ranges.{is_life};
 
 use login_base::{Name, Sequence, SessionId};
 use realm_data::{Action, OtpSecret, Realm};
@@ -13,7 +13,7 @@ pub struct Life {
 
 impl Model for Life {
     ghost use Rattle.std.specs.Prelude.{ℕ, IsTrue};
-    ghost use Rattle.facts.specs.Ranges.{is_life};
+    ghost use Rattle.asks.specs.Ranges.{is_life};
 
     ghost Value = { ℕ };
 

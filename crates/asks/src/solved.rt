@@ -1,5 +1,5 @@
 ghost use Rattle.std.specs.Prelude.{◌≡◌, Some, None, [], IsTrue, if◌then◌else◌};
-ghost use Rattle.facts.specs.Passwords.{password_use, password_text, form_slot, verb_slot, text_of, is_finding_of, is_empty, is_solved, emptied, emptied_form, emptied_verb};
+ghost use Rattle.asks.specs.Passwords.{password_use, password_text, form_slot, verb_slot, text_of, is_finding_of, is_empty, is_solved, emptied, emptied_form, emptied_verb};
 
 use crate::admin::{AdminVerb, NewUser};
 use crate::ask::{Ask, Form};
@@ -21,8 +21,8 @@ impl Model for Solved {
     ghost use Rattle.std.specs.Prelude.{IsTrue};
     ghost use Rattle.std.specs.Coded.{codes};
     ghost use Rattle.flow_tree.specs.contracts.exec.Exec as exec;
-    ghost use Rattle.facts.specs.Passwords.{is_solved};
-    ghost use Rattle.facts.specs.Solved.{SolvedAsk};
+    ghost use Rattle.asks.specs.Passwords.{is_solved};
+    ghost use Rattle.asks.specs.Solved.{SolvedAsk};
 
     ghost Value = { SolvedAsk };
 

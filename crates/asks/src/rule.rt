@@ -19,4 +19,6 @@ pub enum Rule {
     NoSuchSession,
     /// The text is no realm.
     RealmRefused,
+    /// The realm has steps or users that the service can't play yet.
+    NotYet,
 }

@@ -1,16 +1,16 @@
 -- An ask that does nothing with a password has none.
 use Rattle.std.proofs.Common.{◌≡◌, ℕ, Bool, true, false, ◌&&◌, List, [], Option, Some, None, refl, ap, subst, sym}
-use Rattle.facts.specs.declared.admin.AdminVerb.{AdminVerb}
-use Rattle.facts.specs.declared.admin.AdminVerb.TheVariants as verbs
-use Rattle.facts.specs.declared.ask.Ask.{Ask}
-use Rattle.facts.specs.declared.ask.Ask.TheVariants as asks
-use Rattle.facts.specs.declared.ask.Form.{Form}
-use Rattle.facts.specs.declared.ask.Form.TheVariants as forms
-use Rattle.facts.specs.declared.ask.Post.{Post}
-use Rattle.facts.specs.declared.admin.NewUser.{NewUser}
-use Rattle.facts.specs.declared.finding.Finding.TheVariants as findings
-use Rattle.facts.specs.declared.finding.PasswordUse.TheVariants as uses
-use Rattle.facts.specs.Passwords.{Slot, NoPassword, Checks, Sets, form_slot, given_slot, verb_slot, slot_of, use_of, text_of, password_use, password_text, emptied_form, emptied_password, emptied_verb, emptied, is_empty, is_finding_of, is_solved}
+use Rattle.asks.specs.declared.admin.AdminVerb.{AdminVerb}
+use Rattle.asks.specs.declared.admin.AdminVerb.TheVariants as verbs
+use Rattle.asks.specs.declared.ask.Ask.{Ask}
+use Rattle.asks.specs.declared.ask.Ask.TheVariants as asks
+use Rattle.asks.specs.declared.ask.Form.{Form}
+use Rattle.asks.specs.declared.ask.Form.TheVariants as forms
+use Rattle.asks.specs.declared.ask.Post.{Post}
+use Rattle.asks.specs.declared.admin.NewUser.{NewUser}
+use Rattle.asks.specs.declared.finding.Finding.TheVariants as findings
+use Rattle.asks.specs.declared.finding.PasswordUse.TheVariants as uses
+use Rattle.asks.specs.Passwords.{Slot, NoPassword, Checks, Sets, form_slot, given_slot, verb_slot, slot_of, use_of, text_of, password_use, password_text, emptied_form, emptied_password, emptied_verb, emptied, is_empty, is_finding_of, is_solved}
 
 no_slot : (slot : Slot) → use_of slot ≡ uses.NoPassword → slot ≡ NoPassword
 no_slot NoPassword h = refl

@@ -1,17 +1,17 @@
 -- What asks do with a password, and what a check of one may find.
 use Rattle.std.specs.Prelude.{ℕ, Bool, true, false, ◌&&◌, List, [], ◌∷◌, Option, Some, None}
 use Rattle.realm_data.specs.PasswordHash.{is_iterations}
-use Rattle.facts.specs.declared.admin.AdminVerb.{AdminVerb}
-use Rattle.facts.specs.declared.admin.AdminVerb.TheVariants as verbs
-use Rattle.facts.specs.declared.admin.NewUser.{NewUser}
-use Rattle.facts.specs.declared.ask.Ask.{Ask}
-use Rattle.facts.specs.declared.ask.Ask.TheVariants as asks
-use Rattle.facts.specs.declared.ask.Form.{Form}
-use Rattle.facts.specs.declared.ask.Form.TheVariants as forms
-use Rattle.facts.specs.declared.finding.Finding.{Finding}
-use Rattle.facts.specs.declared.finding.Finding.TheVariants as findings
-use Rattle.facts.specs.declared.finding.PasswordUse.{PasswordUse}
-use Rattle.facts.specs.declared.finding.PasswordUse.TheVariants as uses
+use Rattle.asks.specs.declared.admin.AdminVerb.{AdminVerb}
+use Rattle.asks.specs.declared.admin.AdminVerb.TheVariants as verbs
+use Rattle.asks.specs.declared.admin.NewUser.{NewUser}
+use Rattle.asks.specs.declared.ask.Ask.{Ask}
+use Rattle.asks.specs.declared.ask.Ask.TheVariants as asks
+use Rattle.asks.specs.declared.ask.Form.{Form}
+use Rattle.asks.specs.declared.ask.Form.TheVariants as forms
+use Rattle.asks.specs.declared.finding.Finding.{Finding}
+use Rattle.asks.specs.declared.finding.Finding.TheVariants as findings
+use Rattle.asks.specs.declared.finding.PasswordUse.{PasswordUse}
+use Rattle.asks.specs.declared.finding.PasswordUse.TheVariants as uses
 
 -- ---- the password of an ask
 
