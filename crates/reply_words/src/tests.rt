@@ -1,10 +1,10 @@
 use crate::words_of;
-use realm_data::Action;
 use asks::{Need, Next, Reply, Rule, What, Who};
 use flow_tree::Kind;
 use login_base::{
     Code, Id, Memory, Name, RootKey, Sequence, SessionId, TabKey, UserId, discard, read_name,
 };
+use realm_data::Action;
 use std::alloc::{AllocGlobal, Global};
 use std::process::Abort;
 use std::test::Fail;
@@ -19,7 +19,7 @@ const ID: Id = Id {
 /// The text of `ID`.
 const SPELLED: &str = "0000000000000007.000000000000000a000000000000000b";
 
-const RULES: [(Rule, &str); 9] = [
+const RULES: [(Rule, &str); 10] = [
     (Rule::WrongKey, "WrongKey"),
     (Rule::UserTaken, "UserTaken"),
     (Rule::TooManyUsers, "TooManyUsers"),

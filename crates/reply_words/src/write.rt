@@ -4,10 +4,10 @@ ghost use Rattle.reply_words.specs.Words.{rule_words, kind_words, action_words, 
 ghost use Rattle.login_base.specs.IdText.{id_bytes};
 
 use crate::text::{add, add_field, add_fields, add_id, add_number};
-use realm_data::Action;
 use asks::{Need, Next, Reply, Rule, What, Who};
 use flow_tree::Kind;
 use login_base::{Code, Memory, Sequence, SessionId, id_text};
+use realm_data::Action;
 use std::alloc::Global;
 
 fn rule_words(rule: Rule) -> &'static [u8]
