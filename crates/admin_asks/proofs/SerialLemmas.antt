@@ -1,5 +1,5 @@
 -- How far the asks of administrators lift the counters.
-use Rattle.std.proofs.Common.{◌≡◌, ℕ, ◌+◌, List, Option, Some, None, refl, ap, sym, arith}
+use Rattle.std.proofs.Common.{◌≡◌, ℕ, ◌+◌, List, [], ◌∷◌, Option, Some, None, refl, ap, sym, arith}
 use Rattle.std.specs.Prelude.{Result, Ok, Err}
 use Rattle.login_base.specs.declared.id.UserId.{UserId}
 use Rattle.asks.specs.declared.admin.AdminVerb.{AdminVerb}
@@ -13,7 +13,13 @@ use Rattle.facts.specs.Serials.{last_stored_serial}
 use Rattle.hall_answers.specs.declared.refusal.Refusal.{Refusal}
 use Rattle.hall_answers.specs.Refusals.{◌>>=◌, settled}
 use Rattle.hall_answers.specs.Setting.{Setting}
-use Rattle.hall_answers.proofs.Lifts.{Lifts, lifts, nothing}
+use Rattle.hall_answers.proofs.Lifts.{Lifts, lifts, nothing, Raising, raising}
+use Rattle.facts.specs.declared.fact.Fact.TheVariants.{RealmPut}
+use Rattle.facts.specs.Realms.{last_version}
+use Rattle.facts.proofs.InForce.{last_version_more}
+use Rattle.facts.proofs.SerialLemmas.{last_tab_serial_more, last_stored_serial_more}
+use Rattle.realm_data.specs.declared.realm_parts.RealmParts.{RealmParts}
+use Rattle.admin_asks.specs.RealmPut.{check_realm, answer_to_realm, due_realm_put}
 use Rattle.admin_asks.specs.Admin.{check_key, due_verb, verb_with, due_admin}
 use Rattle.admin_asks.specs.UserAdd.{check_built, check_name_free, check_new_user, answer_to_new_user, due_user_add}
 
@@ -36,15 +42,27 @@ new_user_lifts setting new finding (Ok user) h =
     user_lifts setting.facts new finding user (next_user (check_built new) (check_name_free setting.facts new.name) (last_stored_serial setting.facts + 1) user h)
 new_user_lifts setting new finding (Err refusal) h = nothing 2 setting.facts
 
-verb_lifts : (setting : Setting) (verb : AdminVerb) (finding : Finding) → Lifts 2 setting.facts (due_verb setting verb finding).added
-unfolding due_user_add
-verb_lifts setting (verbs.UserAdd new) finding = new_user_lifts setting new finding (check_new_user setting.facts new) refl
-verb_lifts setting verb finding = nothing 2 setting.facts
+-- the next version is the one after the last
+realm_raises : (setting : Setting) (realm : Result RealmParts Refusal) → Raising 2 setting.facts (settled setting.facts None (answer_to_realm setting.facts) realm).added
+realm_raises setting (Ok realm) =
+    let new = RealmPut (last_version setting.facts + 1) realm ∷ [] in
+    record {
+      tabs = let e = last_tab_serial_more setting.facts new in omega arith;
+      stored = let e = last_stored_serial_more setting.facts new in omega arith;
+      version = let e = last_version_more setting.facts new in omega arith;
+    }
+realm_raises setting (Err refusal) = raising 2 setting.facts [] (nothing 2 setting.facts)
 
-key_lifts : (setting : Setting) (verb : AdminVerb) (finding : Finding) (key : Result (Unit {0}) Refusal) → Lifts 2 setting.facts (settled setting.facts None (verb_with setting verb finding) key).added
-key_lifts setting verb finding (Ok key) = verb_lifts setting verb finding
-key_lifts setting verb finding (Err refusal) = nothing 2 setting.facts
+verb_raises : (setting : Setting) (verb : AdminVerb) (finding : Finding) → Raising 2 setting.facts (due_verb setting verb finding).added
+unfolding due_user_add due_realm_put
+verb_raises setting (verbs.UserAdd new) finding = raising 2 setting.facts _ (new_user_lifts setting new finding (check_new_user setting.facts new) refl)
+verb_raises setting (verbs.RealmPut realm) finding = realm_raises setting (check_realm realm)
+verb_raises setting verb finding = raising 2 setting.facts [] (nothing 2 setting.facts)
 
-pub admin_lifts : (setting : Setting) (access : Access) (verb : AdminVerb) (finding : Finding) → Lifts 2 setting.facts (due_admin setting access verb finding).added
+key_raises : (setting : Setting) (verb : AdminVerb) (finding : Finding) (key : Result (Unit {0}) Refusal) → Raising 2 setting.facts (settled setting.facts None (verb_with setting verb finding) key).added
+key_raises setting verb finding (Ok key) = verb_raises setting verb finding
+key_raises setting verb finding (Err refusal) = raising 2 setting.facts [] (nothing 2 setting.facts)
+
+pub admin_raises : (setting : Setting) (access : Access) (verb : AdminVerb) (finding : Finding) → Raising 2 setting.facts (due_admin setting access verb finding).added
 unfolding due_admin
-admin_lifts setting access verb finding = key_lifts setting verb finding (check_key setting.realm access)
+admin_raises setting access verb finding = key_raises setting verb finding (check_key setting.realm access)

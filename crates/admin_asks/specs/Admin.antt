@@ -12,6 +12,7 @@ use Rattle.hall_answers.specs.declared.refusal.Refusal.{Refusal}
 use Rattle.hall_answers.specs.declared.refusal.Refusal.TheVariants.{NotBuilt, WrongKey}
 use Rattle.hall_answers.specs.Refusals.{refused, settled}
 use Rattle.hall_answers.specs.Setting.{Setting}
+use Rattle.admin_asks.specs.RealmPut.{due_realm_put}
 use Rattle.admin_asks.specs.UserAdd.{due_user_add}
 
 -- an administrator comes in locally, or with the realm's key
@@ -24,7 +25,7 @@ abbrev pub not_built : Setting → Answer
 not_built setting = refused setting.facts None NotBuilt
 
 abbrev pub due_verb : Setting → AdminVerb → Finding → Answer
-due_verb setting (verbs.RealmPut realm) finding = not_built setting
+due_verb setting (verbs.RealmPut realm) finding = due_realm_put setting realm
 due_verb setting (verbs.UserAdd new) finding = due_user_add setting new finding
 due_verb setting (verbs.Roles name roles) finding = not_built setting
 due_verb setting (verbs.SetPassword name password) finding = not_built setting

@@ -1,3 +1,4 @@
 pub mod Account
 pub mod Admin
+pub mod RealmPut
 pub mod UserAdd

@@ -3,6 +3,7 @@ ghost use Rattle.hall_answers.specs.HasSerials.{HasSerials};
 ghost use Rattle.admin_asks.specs.Admin.{check_key, due_verb, due_admin};
 ghost use Rattle.admin_asks.specs.UserAdd.{IsKeepable};
 
+use crate::realm_put::due_realm_put;
 use crate::user_add::due_user_add;
 use facts::{Access, AdminVerb, Finding, Realm};
 use hall_answers::{Answer, Refusal, Setting, refused};
@@ -31,9 +32,9 @@ fn due_verb<L: Ledger>(
     ensures { IfOk result (λ answer. answer ≡ due_verb setting.now verb.now finding.now) }
 {
     match verb {
+        AdminVerb::RealmPut { realm } => due_realm_put(setting, realm, steps),
         AdminVerb::UserAdd(new) => due_user_add(setting, new, finding, steps),
-        AdminVerb::RealmPut { .. }
-        | AdminVerb::Roles { .. }
+        AdminVerb::Roles { .. }
         | AdminVerb::SetPassword { .. }
         | AdminVerb::OtpSet { .. }
         | AdminVerb::OtpRemove { .. }

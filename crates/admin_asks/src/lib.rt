@@ -3,6 +3,7 @@
 
 mod account;
 mod admin;
+mod realm_put;
 mod user_add;
 
 pub use account::add_account;

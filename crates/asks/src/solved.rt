@@ -148,7 +148,8 @@ impl Solved {
     /// `None` for an ask without a password, `Checked` for one that checks it, and `Derived` with
     /// 1 to 2,000,000 iterations for one that sets it. Else none.
     pub fn of_journal(ask: Ask, finding: Finding) -> Option<Solved>
-        ensures value { result ≡ (if is_solved ask finding then Some (record { ask = ask; finding = finding }) else None) }
+        ensures value { result ≡
+            (if is_solved ask finding then Some (record { ask = ask; finding = finding }) else None) }
     {
         if has_empty_password(&ask) && is_finding_of(password_use(&ask), &finding) {
             Some(Solved { ask, finding })

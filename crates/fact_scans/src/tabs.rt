@@ -138,7 +138,8 @@ impl TabOf {
         steps: &mut Steps<L>,
     )
         requires within { index < length chronicle.now.list }
-        ensures value { option_map (tab_after self.now.root self.now.tab carried.old) (slice_get chronicle.now.list index) ≡ Some carried.new }
+        ensures value { option_map (tab_after self.now.root self.now.tab carried.old)
+            (slice_get chronicle.now.list index) ≡ Some carried.new }
     {
         if chronicle.subject(index).concerns(self.root, self.tab) {
             self.after(carried, chronicle.at(index, steps));
@@ -146,7 +147,12 @@ impl TabOf {
     }
 
     /// What is carried to the end of a chronicle.
-    fn kept<L: Ledger>(&self, chronicle: &Chronicle, start: TabState, steps: &mut Steps<L>) -> TabState
+    fn kept<L: Ledger>(
+        &self,
+        chronicle: &Chronicle,
+        start: TabState,
+        steps: &mut Steps<L>,
+    ) -> TabState
         ensures { result ≡ fold (tab_after self.now.root self.now.tab) start chronicle.now.list }
     {
         let mut carried = start;

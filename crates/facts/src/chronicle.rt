@@ -53,7 +53,11 @@ impl Model for Chronicle {
 
     ghost view = { λ c. record { list = c.list.items; waiting = c.waiting.items } };
 
-    ghost invariant = { λ c. (vec_len c.list + vec_len c.waiting ≤ vec_capacity c.list) × (vec_len c.subjects + vec_len c.waiting_subjects ≤ vec_capacity c.subjects) × AreSubjects c.subjects.items c.list.items × AreSubjects c.waiting_subjects.items c.waiting.items × IsCounted c.list.items c.tab_serial c.stored_serial c.known_serial c.version c.realm × (c.waiting_realm ≡ last_of realm_put c.waiting.items) };
+    ghost invariant = { λ c. (vec_len c.list + vec_len c.waiting ≤ vec_capacity c.list) ×
+        (vec_len c.subjects + vec_len c.waiting_subjects ≤ vec_capacity c.subjects) ×
+        AreSubjects c.subjects.items c.list.items × AreSubjects c.waiting_subjects.items c.waiting.items ×
+        IsCounted c.list.items c.tab_serial c.stored_serial c.known_serial c.version c.realm ×
+        (c.waiting_realm ≡ last_of realm_put c.waiting.items) };
 }
 
 /// Copies of the facts.

@@ -1,5 +1,5 @@
-use asks::TokenAction;
 use crate::secret::Secret;
+use asks::TokenAction;
 use conditions::SecretKind;
 use lockout::Standing;
 use login_base::{

@@ -24,7 +24,8 @@ impl Subject {
     {
         match fact {
             Fact::Session {
-                root: Some(root), ..
+                root: Some(root),
+                ..
             } => Subject::Root(root.0.serial),
             Fact::Seen { .. } | Fact::SessionEnd { .. } => Subject::Session,
             Fact::Completed { tab, .. }

@@ -15,6 +15,15 @@ pub record Lifts (most : ℕ) (old more : List Fact) : Type 0 where
   pub stored : last_stored_serial (old ++ more) ≤ last_stored_serial old + most
   pub version : last_version (old ++ more) ≡ last_version old
 
+-- the facts lift each counter of serials by so many at most, and the version by one at most
+pub record Raising (most : ℕ) (old more : List Fact) : Type 0 where
+  pub tabs : last_tab_serial (old ++ more) ≤ last_tab_serial old + most
+  pub stored : last_stored_serial (old ++ more) ≤ last_stored_serial old + most
+  pub version : last_version (old ++ more) ≤ last_version old + 1
+
+pub raising : (most : ℕ) (old more : List Fact) → Lifts most old more → Raising most old more
+raising most old more l = record { tabs = l.tabs; stored = l.stored; version = let e = l.version in omega arith }
+
 -- as the facts are gone through
 pub lifts : (most : ℕ) (old more : List Fact) → fold tab_serial_after (last_tab_serial old) more ≤ last_tab_serial old + most
     → fold stored_serial_after (last_stored_serial old) more ≤ last_stored_serial old + most → fold version_after (last_version old) more ≡ last_version old → Lifts most old more

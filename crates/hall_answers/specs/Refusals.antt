@@ -28,6 +28,8 @@ abbrev pub what_of : List Fact → Refusal → What
 what_of facts refusals.NotBuilt = whats.BadForm (codes "verb")
 what_of facts refusals.WrongKey = whats.AdminRefused rules.WrongKey
 what_of facts refusals.UserTaken = whats.AdminRefused rules.UserTaken
+what_of facts refusals.RealmRefused = whats.AdminRefused rules.RealmRefused
+what_of facts refusals.NotYet = whats.AdminRefused rules.NotYet
 what_of facts refusals.UnknownClient = whats.UnknownClient
 what_of facts refusals.UnknownTab = whats.UnknownTab
 what_of facts (refusals.Stale current) = whats.Stale current

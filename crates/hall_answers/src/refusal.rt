@@ -9,6 +9,10 @@ pub enum Refusal {
     WrongKey,
     /// An account has the name already.
     UserTaken,
+    /// The text is no realm.
+    RealmRefused,
+    /// The realm can't be played yet.
+    NotYet,
     /// The realm has no such client.
     UnknownClient,
     /// The root has no such tab.

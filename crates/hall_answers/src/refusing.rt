@@ -44,6 +44,10 @@ fn what_of<L: Ledger>(
         Refusal::UserTaken => What::AdminRefused {
             rule: Rule::UserTaken,
         },
+        Refusal::RealmRefused => What::AdminRefused {
+            rule: Rule::RealmRefused,
+        },
+        Refusal::NotYet => What::AdminRefused { rule: Rule::NotYet },
         Refusal::UnknownClient => What::UnknownClient,
         Refusal::UnknownTab => What::UnknownTab,
         Refusal::Stale { current } => What::Stale { current },

@@ -28,7 +28,12 @@ impl<'a> Model for Setting<'a> {
 
     ghost coded = { Prim.hlevel (codes, exec.the_row.coded) };
 
-    ghost view = { λ s. record { facts = s.chronicle.now.list; realm = s.realm.now; moment = s.moment; draws = s.draws.now } };
+    ghost view = { λ s. record {
+      facts = s.chronicle.now.list;
+      realm = s.realm.now;
+      moment = s.moment;
+      draws = s.draws.now;
+    } };
 }
 
 /// The realm in force.

@@ -18,6 +18,8 @@ use Rattle.asks.specs.declared.ask.Ask.{Ask}
 use Rattle.asks.specs.declared.ask.Ask.TheVariants as asks
 use Rattle.asks.specs.declared.ask.NewTab.{NewTab}
 use Rattle.asks.specs.declared.ask.Post.{Post}
+use Rattle.realm_data.specs.declared.realm_parts.RealmParts.{RealmParts}
+use Rattle.facts.specs.Realms.{last_version}
 use Rattle.facts.specs.declared.fact.Fact.{Fact}
 use Rattle.facts.specs.declared.fact.Fact.TheVariants as events
 use Rattle.asks.specs.declared.finding.Finding.{Finding}
@@ -41,6 +43,7 @@ use Rattle.tab_asks.specs.Pages.{page_fact, session_for, session_fact, completio
 use Rattle.tab_asks.specs.Post.{check_post, check_form, evidence_by, known_over, failure_of, answer_to_accepted, answer_to_wrong, answer_to_check, post_where, post_by, post_in, due_post}
 use Rattle.tab_asks.specs.Visit.{check_tab, check_visit}
 use Rattle.admin_asks.specs.Account.{account_facts}
+use Rattle.admin_asks.specs.RealmPut.{check_realm, answer_to_realm, due_realm_put}
 use Rattle.admin_asks.specs.Admin.{check_key, due_verb, verb_with, due_admin}
 use Rattle.admin_asks.specs.UserAdd.{check_new_user, derived, answer_to_new_user, due_user_add}
 use Rattle.login_hall.specs.Due.{due_ask}
@@ -55,6 +58,7 @@ pub record Allows (P : Fact → Type 0) : Type 0 where
   pub completed : (tab : TabKey) (user : UserId) (session : SessionId) (moment : ℕ) → P (events.Completed tab user session moment)
   pub opened : (root : RootKey) (tab : TabKey) (version level life moment : ℕ) → P (events.Opened root tab version level life moment)
   pub failed : (user : UserId) (moment : ℕ) → P (events.Failed user moment)
+  pub realm_put : (version : ℕ) (realm : RealmParts) → P (events.RealmPut version realm)
   pub user_put : (user : UserId) (name : List ℕ) (roles : List (List ℕ)) → P (events.UserPut user name roles)
   pub secret_set : (user : UserId) (kind : SecretKind) (serial : ℕ) (secret : Secret) (by : Option TabKey) → P (events.SecretSet user kind serial secret by)
 
@@ -156,8 +160,15 @@ module _ (P : Fact → Type 0) (allows : Allows P) where
   user_all setting new finding =
       settled_all setting.facts None (answer_to_new_user new finding) (check_new_user setting.facts new) (λ user is. account_all user new.name new.roles finding)
 
+  realm_all : (setting : Setting) (realm : Option RealmParts) → All P (due_realm_put setting realm).added
+  unfolding due_realm_put
+  realm_all setting realm =
+      settled_all setting.facts None (answer_to_realm setting.facts) (check_realm realm) (λ put is.
+      let version = last_version setting.facts + 1 in
+      All-cons P (events.RealmPut version put) [] (allows.realm_put version put) (All-nil P))
+
   verb_all : (setting : Setting) (verb : AdminVerb) (finding : Finding) → All P (due_verb setting verb finding).added
-  verb_all setting (verbs.RealmPut realm) finding = All-nil P
+  verb_all setting (verbs.RealmPut realm) finding = realm_all setting realm
   verb_all setting (verbs.UserAdd new) finding = user_all setting new finding
   verb_all setting (verbs.Roles name roles) finding = All-nil P
   verb_all setting (verbs.SetPassword name password) finding = All-nil P

@@ -82,6 +82,7 @@ asked_allows setting post = record {
   completed = λ tab user session moment. tt;
   opened = λ root tab version level life moment. tt;
   failed = λ user moment. tt;
+  realm_put = λ version realm. tt;
   user_put = λ user name roles. tt;
   secret_set = λ user kind serial secret by. tt;
 }
@@ -105,6 +106,7 @@ none_allows = record {
   completed = λ tab user session moment. refl;
   opened = λ root tab version level life moment. refl;
   failed = λ user moment. refl;
+  realm_put = λ version realm. refl;
   user_put = λ user name roles. refl;
   secret_set = λ user kind serial secret by. refl;
 }

@@ -28,6 +28,7 @@ unmarked_allows = record {
   completed = λ tab user session moment. refl;
   opened = λ root tab version level life moment. refl;
   failed = λ user moment. refl;
+  realm_put = λ version realm. refl;
   user_put = λ user name roles. refl;
   secret_set = λ user kind serial secret by. refl;
 }

@@ -7,14 +7,17 @@ use Rattle.asks.specs.declared.finding.Finding.{Finding}
 use Rattle.asks.specs.Solved.{SolvedAsk}
 use Rattle.hall_answers.specs.Setting.{Setting, setting_at}
 use Rattle.login_base.specs.declared.draws.Draws.{Draws}
-use Rattle.hall_answers.proofs.Lifts.{Lifts, nothing}
+use Rattle.hall_answers.proofs.Lifts.{Lifts, nothing, Raising}
 use Rattle.tab_asks.proofs.SerialLemmas.{new_tab_lifts, page_lifts, post_lifts}
-use Rattle.admin_asks.proofs.SerialLemmas.{admin_lifts}
+use Rattle.admin_asks.proofs.SerialLemmas.{admin_raises}
 use Rattle.login_hall.specs.Due.{due, due_ask}
 use Rattle.login_hall.specs.Legal.{Raises}
 
 raised : (most : ℕ) (old more : List Fact) → most ≤ 4 → Lifts most old more → Raises old (old ++ more)
 raised most old more few l = record { tabs = omega (arith, few, l.tabs); stored = omega (arith, few, l.stored); version = let e = l.version in omega arith }
+
+raised_with_version : (most : ℕ) (old more : List Fact) → most ≤ 4 → Raising most old more → Raises old (old ++ more)
+raised_with_version most old more few r = record { tabs = omega (arith, few, r.tabs); stored = omega (arith, few, r.stored); version = r.version }
 
 -- an ask raises each counter by a few at most
 pub raises : (setting : Setting) (ask : Ask) (finding : Finding) → Raises setting.facts (setting.facts ++ (due_ask setting ask finding).added)
@@ -25,7 +28,7 @@ raises setting (asks.Post post) finding = raised 1 setting.facts _ (omega arith)
 raises setting (asks.Verify key) finding = raised 0 setting.facts _ (omega arith) (nothing 0 setting.facts)
 raises setting (asks.Reset key password) finding = raised 0 setting.facts _ (omega arith) (nothing 0 setting.facts)
 raises setting (asks.Logout root) finding = raised 0 setting.facts _ (omega arith) (nothing 0 setting.facts)
-raises setting (asks.Admin access verb) finding = raised 2 setting.facts _ (omega arith) (admin_lifts setting access verb finding)
+raises setting (asks.Admin access verb) finding = raised_with_version 2 setting.facts _ (omega arith) (admin_raises setting access verb finding)
 
 pub raises_at : (facts : List Fact) (solved : SolvedAsk) (moment : ℕ) (draws : Draws) → Raises facts (facts ++ (due facts solved moment draws).added)
 raises_at facts solved moment draws = raises (setting_at facts moment draws) solved.ask solved.finding

@@ -124,7 +124,8 @@ fn task_of<L: Ledger>(
 ) -> Option<Task>
     requires realm { has_realm chronicle.now.list ≡ true }
     requires blank { IsBlank blank L.name L.parts }
-    ensures task { result ≡ task_for (password_use ask.now) (target_password chronicle.now.list moment ask.now) (realm_now chronicle.now.list).iterations draws.now }
+    ensures task { result ≡ task_for (password_use ask.now) (target_password chronicle.now.list moment ask.now)
+        (realm_now chronicle.now.list).iterations draws.now }
     ensures rounds { MayHave result }
 {
     let mut steps = Steps::<L>::new(blank);

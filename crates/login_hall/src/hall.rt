@@ -51,7 +51,12 @@ impl Model for Hall {
 
     ghost coded = { Prim.hlevel (codes, exec.the_row.coded) };
 
-    ghost view = { λ h. record { base = take h.based h.facts.list; journal = h.journal.items; waiting = h.facts.waiting; room = vec_capacity h.journal - vec_len h.journal } };
+    ghost view = { λ h. record {
+      base = take h.based h.facts.list;
+      journal = h.journal.items;
+      waiting = h.facts.waiting;
+      room = vec_capacity h.journal - vec_len h.journal;
+    } };
 
     ghost invariant = { λ h. IsSound h.facts.list h.based h.journal.items h.last };
 }
@@ -65,7 +70,14 @@ fn proposal_of(
     solved: Solved,
     answer: Answer,
 ) -> Result<Proposal, Memory>
-    ensures { IfOk result (λ p. p ≡ record { caller = caller; moment = moment; draws = draws; solved = solved; reply = answer.reply; added = answer.added }) }
+    ensures { IfOk result (λ p. p ≡ record {
+      caller = caller;
+      moment = moment;
+      draws = draws;
+      solved = solved;
+      reply = answer.reply;
+      added = answer.added;
+    }) }
 {
     match answer.reply.duplicate(alloc) {
         Ok(reply) => {
@@ -186,7 +198,8 @@ impl Hall {
     /// decides nothing, and takes no memory.
     pub fn begin(&self, ask: Ask, draws: &Draws) -> Begun
         requires realm { has_realm (facts_of self.now) ≡ true }
-        ensures solved { solution_of result ≡ solved_of (facts_of self.now) (last_moment self.now.base self.now.journal) ask draws.now }
+        ensures solved { solution_of result ≡
+            solved_of (facts_of self.now) (last_moment self.now.base self.now.journal) ask draws.now }
         ensures work { is_work result ≡ has_password (password_use ask) }
     {
         begun(self.alloc, &self.facts, self.last, ask, draws)

@@ -56,7 +56,8 @@ fn lacking<L: Ledger>(
     truths: &Truths,
     steps: &mut Steps<L>,
 ) -> Result<Progress, Memory>
-    ensures { IfOk result (λ progress. progress ≡ lacking facts.now who tree.now (flow_needs truths.now.held tree.now)) }
+    ensures { IfOk result (λ progress. progress ≡
+        lacking facts.now who tree.now (flow_needs truths.now.held tree.now)) }
 {
     let needs = tree.needs_by(truths)?;
     let account = account_of(alloc, facts, who, steps)?;

@@ -43,7 +43,8 @@ fn add_truth<L: Ledger>(
     held: &mut Sequence<Name>,
     steps: &mut Steps<L>,
 ) -> Result<(), Memory>
-    ensures { OnOk result (held.new ≡ held.old ++ (if is_true facts.now tab who leaf.now then leaf.now.id ∷ [] else [])) }
+    ensures { OnOk result (held.new ≡
+        held.old ++ (if is_true facts.now tab who leaf.now then leaf.now.id ∷ [] else [])) }
 {
     let evidence = has_evidence_of(facts, tab, who, leaf, steps);
     if is_true_by(leaf.kind, evidence) {

@@ -33,7 +33,12 @@ impl Model for PasswordHash {
 
     ghost invariant = { λ h. IsHash h.salt h.salt_len h.iterations };
 
-    ghost inverse = { λ v. record { salt = padded v.salt; salt_len = length v.salt; iterations = v.iterations; digest = v.digest } };
+    ghost inverse = { λ v. record {
+      salt = padded v.salt;
+      salt_len = length v.salt;
+      iterations = v.iterations;
+      digest = v.digest;
+    } };
 
     ghost inverse_ok = { λ h ok. both (λ (salt : List ℕ) (len : ℕ). record h { salt = salt; salt_len = len })
         (sym ok.padded) (length-padded h.salt h.salt_len ok.most ok.padded) };

@@ -170,7 +170,8 @@ fn add_labelled_next(
 }
 
 fn add_current(out: &mut Vec<u8>, current: &Option<Code>) -> Result<(), Memory>
-    ensures { OnOk result (out.new.items ≡ out.old.items ++ (codes "refused 9 Stale current=" ++ current_words current.now)) }
+    ensures { OnOk result (out.new.items ≡
+        out.old.items ++ (codes "refused 9 Stale current=" ++ current_words current.now)) }
 {
     match current {
         Some(code) => add_id(out, b"refused 9 Stale current=", &code.0),

@@ -47,7 +47,8 @@ impl Passing {
         kind: Kind,
         added: &mut Sequence<Fact>,
     ) -> Result<(), Memory>
-        ensures { OnOk result (added.new ≡ added.old ++ name_fact self.now ∷ evidence_fact self.now execution.now kind ∷ []) }
+        ensures { OnOk result (added.new ≡
+            added.old ++ name_fact self.now ∷ evidence_fact self.now execution.now kind ∷ []) }
     {
         added.push(self.name_fact())?;
         added.push(self.evidence_fact(alloc, execution, kind)?)
