@@ -84,6 +84,8 @@ not_done : (facts : List Fact) (refusal : Refusal) → done_for (what_of facts r
 not_done facts refusals.NotBuilt = refl
 not_done facts refusals.WrongKey = refl
 not_done facts refusals.UserTaken = refl
+not_done facts refusals.RealmRefused = refl
+not_done facts refusals.NotYet = refl
 not_done facts refusals.UnknownClient = refl
 not_done facts refusals.UnknownTab = refl
 not_done facts (refusals.Stale current) = refl
