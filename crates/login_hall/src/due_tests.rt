@@ -5,8 +5,8 @@ use crate::due::due;
 use crate::sample_asks::{DRAWS, Filled, Line, MOMENT, ask_of, id};
 use crate::sample_hall::OPEN;
 use crate::sample_lines::{add_facts, spelled};
-use crate::sample_realms::{FEW, Given, PLAIN, realm_of};
-use crate::start_tests::{LAST_START, SHOP, add_fact, marked, start_over};
+use crate::sample_realms::{FEW, realm_of};
+use crate::start_tests::{LAST_START, add_fact, marked, start_over};
 use facts::{Chronicle, Fact, Finding, Solved};
 use hall_answers::{Answer, Setting};
 use login_base::{Moment, RootKey, SessionId, Steps, TabKey, UserId, discard};
@@ -61,67 +61,6 @@ fn answered_over(
     chronicle.reserve(added.as_slice())?;
     chronicle.add();
     Ok(text)
-}
-
-// ---- versions
-
-/// The realm of a start, the client of an open behind it, and what both add.
-type StartAndOpen = (Given, &'static str, &'static str);
-
-/// Starts of one hall after the other, each with an open behind it.
-const VERSIONS: [StartAndOpen; 4] = [
-    (
-        PLAIN,
-        "app",
-        "realm 1 garden
-root=[1] tab=[2] form code=[3] asked=form:form
-tab 2 of version 1, level 0, 1800000 ms
-tab 2 shown
-",
-    ),
-    (
-        PLAIN,
-        "app",
-        "root=[4] tab=[5] form code=[6] asked=form:form
-tab 5 of version 1, level 0, 1800000 ms
-tab 5 shown
-",
-    ),
-    // A client of the realm before isn't one of the realm in force.
-    (SHOP, "app", "realm 2 garden\nrefused 3 UnknownClient\n"),
-    (
-        SHOP,
-        "shop",
-        "root=[7] tab=[8] form code=[9] asked=form:form
-tab 8 of version 2, level 0, 1800000 ms
-tab 8 shown
-",
-    ),
-];
-
-fn is_opened(
-    rt: &impl Abort,
-    alloc: Global,
-    chronicle: &mut Chronicle,
-    case: StartAndOpen,
-) -> Result<(), Fail> {
-    let (given, client, text) = case;
-    let realm = realm_of(alloc, given)?;
-    let mut answered = start_over(alloc, chronicle, Some(realm))?;
-    let open = Line::Open(client, None, None);
-    let mut opened = answered_over(alloc, chronicle, open, Finding::None)?;
-    answered.append(&mut opened)?;
-    assert_eq!(rt; answered.as_slice(), spelled(alloc, text)?.as_bytes());
-    Ok(())
-}
-
-#[test]
-fn a_tab_is_opened_with_the_version_in_force(rt: HostRuntime) -> Result<(), Fail> {
-    let mut chronicle = marked(rt.alloc(), 0)?;
-    for case in VERSIONS {
-        is_opened(&rt, rt.alloc(), &mut chronicle, case)?;
-    }
-    Ok(())
 }
 
 // ---- tabs as no ask leaves them yet

@@ -1,6 +1,6 @@
 use crate::sample_asks::{Filled, Line};
 use crate::sample_hall::{ANN, LateAsk, OPEN, POST, is_answered_late};
-use crate::sample_realms::{FEW, Given, PLAIN};
+use crate::sample_realms::{Given, PLAIN};
 use flow_tree::Kind;
 use std::test::Fail;
 
@@ -132,45 +132,6 @@ refused 2 AdminRefused rule=UserTaken
     ),
 ];
 
-/// Posts of users with whom the realm came: `ann` has a password, `zoe` has none.
-const COME_WITH: [LateAsk; 3] = [
-    (
-        FEW,
-        &[OPEN],
-        POST,
-        &[],
-        "done session=[7] user=ann level=0
-tab 2 named
-secret 2 passed
-user 1 in a session
-tab 2 completed
-refused 11 Finished
-",
-    ),
-    (
-        FEW,
-        &[OPEN],
-        Line::Post(1, Filled::Both("form", "ann", "pw2"), 3),
-        &[],
-        "refused 16 BadCredentials form code=[4] asked=form:form
-user 1 failed
-tab 2 shown
-refused 9 Stale current=[4]
-",
-    ),
-    (
-        FEW,
-        &[OPEN],
-        Line::Post(1, Filled::Both("form", "zoe", "pw1"), 3),
-        &[],
-        "refused 16 BadCredentials form code=[4] asked=form:form
-user 3 failed
-tab 2 shown
-refused 9 Stale current=[4]
-",
-    ),
-];
-
 #[test]
 fn a_post_is_refused_whose_password_was_set_meanwhile(rt: HostRuntime) -> Result<(), Fail> {
     for case in MOVED {
@@ -182,14 +143,6 @@ fn a_post_is_refused_whose_password_was_set_meanwhile(rt: HostRuntime) -> Result
 #[test]
 fn a_post_stands_whose_password_is_the_same(rt: HostRuntime) -> Result<(), Fail> {
     for case in KEPT {
-        is_answered_late(&rt, rt.alloc(), case)?;
-    }
-    Ok(())
-}
-
-#[test]
-fn a_user_of_the_realm_logs_in_with_its_password(rt: HostRuntime) -> Result<(), Fail> {
-    for case in COME_WITH {
         is_answered_late(&rt, rt.alloc(), case)?;
     }
     Ok(())

@@ -13,8 +13,6 @@ mod hall;
 mod late_tests;
 #[cfg(test)]
 mod order_tests;
-#[cfg(test)]
-mod page_tests;
 mod proposal;
 #[cfg(test)]
 mod sample_asks;

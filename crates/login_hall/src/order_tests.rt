@@ -2,63 +2,15 @@
 
 use crate::sample_asks::{Filled, Line};
 use crate::sample_hall::{ANN, LateAsk, OPEN, POST, is_refused_late};
-use crate::sample_realms::{FEW, PLAIN};
+use crate::sample_realms::PLAIN;
 use std::test::Fail;
 
-/// Of a disabled user.
 const BOBS: Filled = Filled::Both("form", "bob", "pw1");
-
-const UNASKED: Filled = Filled::Both("other", "bob", "pw1");
 
 const ANNS: Filled = Filled::Both("form", "ann", "pw1");
 
-/// A disabled user is refused behind all that the tab and the form refuse, and before the password
-/// is looked at.
-const DISABLED: [LateAsk; 9] = [
-    (FEW, &[OPEN], Line::Post(9, BOBS, 3), &[], "7 UnknownTab"),
-    (
-        FEW,
-        &[OPEN],
-        Line::Post(1, BOBS, 9),
-        &[],
-        "9 Stale current=[3]",
-    ),
-    (
-        FEW,
-        &[OPEN, POST],
-        Line::Post(1, BOBS, 3),
-        &[],
-        "10 OtherUser tab=bob session=ann",
-    ),
-    // The session of the login has ended.
-    (FEW, &[OPEN, POST], Line::LatePost(BOBS), &[], "11 Finished"),
-    (FEW, &[OPEN], Line::Post(1, UNASKED, 3), &[], "12 NotAsked"),
-    (
-        FEW,
-        &[OPEN],
-        Line::Post(1, Filled::Name("form", "bob"), 3),
-        &[],
-        "12 NotAsked",
-    ),
-    (FEW, &[OPEN], Line::Post(1, BOBS, 3), &[], "14 Disabled"),
-    (
-        FEW,
-        &[OPEN],
-        Line::Post(1, Filled::Both("form", "bob", "bad"), 3),
-        &[],
-        "14 Disabled",
-    ),
-    // A user without a password.
-    (
-        FEW,
-        &[OPEN],
-        Line::Post(1, Filled::Both("form", "cid", "pw1"), 3),
-        &[],
-        "14 Disabled",
-    ),
-];
-
-/// So is a user whose password was set while the post was hashed.
+/// A user whose password was set while the post was hashed is refused behind all that the tab and
+/// the form refuse.
 const MOVED: [LateAsk; 5] = [
     (
         PLAIN,
@@ -137,14 +89,6 @@ const UNBUILT: [LateAsk; 6] = [
         "2 AdminRefused rule=WrongKey",
     ),
 ];
-
-#[test]
-fn a_disabled_user_is_refused_in_its_place(rt: HostRuntime) -> Result<(), Fail> {
-    for case in DISABLED {
-        is_refused_late(&rt, rt.alloc(), case)?;
-    }
-    Ok(())
-}
 
 #[test]
 fn a_password_that_was_set_meanwhile_is_refused_in_its_place(rt: HostRuntime) -> Result<(), Fail> {

@@ -11,9 +11,6 @@ pub(crate) const DRAWS: Draws = Draws([0; 10]);
 /// The moment of an ask, in milliseconds.
 pub(crate) const MOMENT: u64 = 1_000;
 
-/// A moment at which no session of `MOMENT` is live any more.
-pub(crate) const LATER: u64 = 1_801_000;
-
 /// A form of an execution.
 #[derive(Clone, Copy)]
 pub(crate) enum Filled {
@@ -38,8 +35,6 @@ pub(crate) enum Line {
     Page(u64),
     /// Posts a form in the root of a serial, with the code of a serial.
     Post(u64, Filled, u64),
-    /// Posts a form in the root 1 with the code 3, half an hour later.
-    LatePost(Filled),
 }
 
 /// The id of a serial, where each draw of its ask is 0.
@@ -143,14 +138,5 @@ pub(crate) fn ask_of(alloc: Global, line: Line) -> Result<Ask, Fail> {
             tab: TabKey(id(2)),
         }),
         Line::Post(root, filled, code) => posting(alloc, root, filled, code),
-        Line::LatePost(filled) => posting(alloc, 1, filled, 3),
-    }
-}
-
-/// The moment of an ask.
-pub(crate) fn moment_of(line: Line) -> u64 {
-    match line {
-        Line::LatePost(_) => LATER,
-        _ => MOMENT,
     }
 }

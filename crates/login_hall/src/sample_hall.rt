@@ -4,7 +4,7 @@ ghost use Rattle.facts.specs.Realms.{has_realm};
 ghost use Rattle.login_base.specs.Steps.{IsBlank};
 ghost use Rattle.login_hall.specs.HallState.{facts_of};
 
-use crate::sample_asks::{DRAWS, Filled, Line, ask_of, moment_of};
+use crate::sample_asks::{DRAWS, Filled, Line, MOMENT, ask_of};
 use crate::sample_lines::{add_facts, spelled};
 use crate::sample_realms::{Given, realm_of};
 use crate::{Begun, Hall};
@@ -42,7 +42,6 @@ fn begun_line(alloc: Global, hall: &Hall, line: Line) -> Result<Solved, Fail>
 fn ended<L: Ledger>(
     alloc: Global,
     hall: &mut Hall,
-    moment: u64,
     solved: Solved,
     steps: &mut Steps<L>,
 ) -> Result<Vec<u8>, Fail>
@@ -53,7 +52,7 @@ fn ended<L: Ledger>(
         discard(solved);
         return Err("the serials are used up".into());
     }
-    let proposal = hall.propose(0, moment, DRAWS, solved, steps)?;
+    let proposal = hall.propose(0, MOMENT, DRAWS, solved, steps)?;
     let mut lines = Vec::new(alloc);
     let added = add_facts(alloc, &mut lines, proposal.entry.added.as_slice());
     let reply = hall.adopt(proposal);
@@ -90,7 +89,7 @@ fn entered<L: Ledger>(
     ensures realm { OnOk result (has_realm (facts_of hall.new) ≡ true) }
 {
     let solved = begun_line(alloc, hall, line)?;
-    ended(alloc, hall, moment_of(line), solved, steps)
+    ended(alloc, hall, solved, steps)
 }
 
 /// Asks that come one after the other.
@@ -124,7 +123,7 @@ fn late<L: Ledger>(
     enter_all(alloc, &mut hall, before, &mut steps)?;
     let solved = begun_line(alloc, &hall, line)?;
     enter_all(alloc, &mut hall, between, &mut steps)?;
-    let mut text = ended(alloc, &mut hall, moment_of(line), solved, &mut steps)?;
+    let mut text = ended(alloc, &mut hall, solved, &mut steps)?;
     let mut again = entered(alloc, &mut hall, line, &mut steps)?;
     text.append(&mut again)?;
     Ok(text)

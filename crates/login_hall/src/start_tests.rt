@@ -44,7 +44,7 @@ const TURNED: Given = (
     &[],
 );
 
-pub(crate) const SHOP: Given = ("garden", &["shop"], &[], FORM, &[]);
+const SHOP: Given = ("garden", &["shop"], &[], FORM, &[]);
 
 /// The built-in realm itself.
 const SAME: Given = ("builtin", &["app"], &[], FORM, &[]);
