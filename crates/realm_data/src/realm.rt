@@ -45,7 +45,7 @@ impl Realm {
     pub fn new(alloc: Global, parts: RealmParts) -> Result<Option<Realm>, Memory>
         ensures ok { IfOk result (λ realm. realm ≡ (if is_realm parts then Some parts else None)) }
     {
-        if !is_realm(&parts) {
+        if !is_realm(alloc, &parts)? {
             return Ok(None);
         }
         Ok(Some(Realm {

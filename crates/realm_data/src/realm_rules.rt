@@ -1,7 +1,6 @@
-ghost use Rattle.std.specs.Prelude.{◌≡◌, ℕ, List, true};
-ghost use Rattle.std.specs.List.{list_any, list_all};
+ghost use Rattle.std.specs.Prelude.{◌≡◌, ℕ, List, true, IfOk};
+ghost use Rattle.std.specs.List.{list_all};
 ghost use Rattle.std.specs.Option.{option_map_or};
-ghost use Rattle.std.specs.Str.{bytes_eq};
 ghost use Rattle.realm_data.specs.PasswordHash.{is_hash};
 ghost use Rattle.realm_data.specs.Realm.{is_within, are_limits, is_otp_rule, is_policy, are_numbers};
 ghost use Rattle.realm_data.specs.Realm.{are_apart, is_before, are_ascending, is_bound, are_levels, are_clients};
@@ -16,8 +15,10 @@ use crate::realm_parts::{AcrLevel, Client, OtpRule, RealmParts, RealmUser, Sessi
 use crate::recovery_digests::{RecoveryDigests, are_recovery_digests};
 use flow_tree::Tree;
 use lockout::Policy;
-use login_base::{Name, is_name};
+use login_base::{Memory, Name, is_name};
+use std::alloc::Global;
 use std::cmp::Ordering;
+use std::collections::BTreeSet;
 
 /// What has a name.
 trait Named {
@@ -87,26 +88,17 @@ fn are_numbers(parts: &RealmParts) -> bool
         && is_policy(&parts.lockout)
 }
 
-/// Whether one of the items has the name.
-fn is_among<T: Named>(name: &Name, items: &[T]) -> bool
-    ensures { result ≡ list_any (λ other. bytes_eq name.now (T.name other)) items.now }
-{
-    items.iter().any(|other| *name == *other.name())
-}
-
 /// Whether no two of the items have one name.
-#[tactic(auto, unfolding(crate::specs::Realm::are_apart))]
-fn are_apart<T: Named>(items: &[T]) -> bool
-    ensures { result ≡ are_apart T.name items.now }
+fn are_apart<T: Named>(alloc: Global, items: &[T]) -> Result<bool, Memory>
+    ensures { IfOk result (λ apart. apart ≡ are_apart T.name items.now) }
 {
-    let mut rest = items;
-    while let [item, others @ ..] = rest {
-        if is_among(item.name(), others) {
-            return false;
+    let mut names = BTreeSet::new(alloc);
+    for item in items {
+        if !names.insert(item.name().as_bytes())? {
+            return Ok(false);
         }
-        rest = others;
     }
-    true
+    Ok(true)
 }
 
 /// Whether the item's name stands before that of the first of these, if there is one.
@@ -158,16 +150,20 @@ fn have_bound_levels(flow: &Tree, clients: &[Client]) -> bool
     clients.iter().all(|client| is_bound(flow, client.level))
 }
 
-fn are_clients(flow: &Tree, clients: &[Client]) -> bool
-    ensures { result ≡ are_clients flow.now clients.now }
+fn are_clients(alloc: Global, flow: &Tree, clients: &[Client]) -> Result<bool, Memory>
+    ensures { IfOk result (λ kept. kept ≡ are_clients flow.now clients.now) }
 {
-    (1..=64).contains(&clients.len()) && have_bound_levels(flow, clients) && are_apart(clients)
+    Ok(
+        (1..=64).contains(&clients.len())
+            && have_bound_levels(flow, clients)
+            && are_apart(alloc, clients)?,
+    )
 }
 
-fn are_users(users: &[RealmUser]) -> bool
-    ensures { result ≡ are_users users.now }
+fn are_users(alloc: Global, users: &[RealmUser]) -> Result<bool, Memory>
+    ensures { IfOk result (λ kept. kept ≡ are_users users.now) }
 {
-    users.len() <= 10_000 && are_apart(users)
+    Ok(users.len() <= 10_000 && are_apart(alloc, users)?)
 }
 
 // ---- what the parts keep by their types
@@ -259,14 +255,16 @@ fn are_secrets(parts: &RealmParts) -> bool
 
 /// Whether the parts keep the rules and the ranges of a realm.
 #[tactic(auto, unfolding(crate::specs::Realm::is_realm))]
-pub(crate) fn is_realm(parts: &RealmParts) -> bool
-    ensures { result ≡ is_realm parts.now }
+pub(crate) fn is_realm(alloc: Global, parts: &RealmParts) -> Result<bool, Memory>
+    ensures { IfOk result (λ kept. kept ≡ is_realm parts.now) }
 {
-    are_numbers(parts)
-        && parts.flow.has_levels_in_range()
-        && are_levels(&parts.flow, parts.acr.as_slice())
-        && are_clients(&parts.flow, parts.clients.as_slice())
-        && are_users(parts.users.as_slice())
-        && are_named(parts)
-        && are_secrets(parts)
+    Ok(
+        are_numbers(parts)
+            && parts.flow.has_levels_in_range()
+            && are_levels(&parts.flow, parts.acr.as_slice())
+            && are_clients(alloc, &parts.flow, parts.clients.as_slice())?
+            && are_users(alloc, parts.users.as_slice())?
+            && are_named(parts)
+            && are_secrets(parts),
+    )
 }

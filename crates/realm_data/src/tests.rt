@@ -336,7 +336,6 @@ fn clients_are_1_to_64(rt: HostRuntime) -> Result<(), Fail> {
     Ok(())
 }
 
-/// Each user's name is compared with each other one's: a second when built, minutes under `rt try`.
 #[test]
 fn users_are_10_000_at_most(rt: HostRuntime) -> Result<(), Fail> {
     assert!(rt; takes_count(rt.alloc(), Named::Users, 10_000)?);
