@@ -3,13 +3,12 @@ ghost use Rattle.std.specs.Prelude.{◌≡◌, ◌<◌, true, OnOk};
 ghost use Rattle.facts.specs.Realms.{has_realm};
 ghost use Rattle.login_hall.specs.HallState.{facts_of};
 
-use crate::lines::is_skipped;
-use crate::number::number;
 use crate::turn::enter_line;
 use facts::Realm;
 use flow_tree::{Body, Exec, Kind, Requirement, Tree};
 use login_base::{Duplicate, Id, Steps, id_text, read_name};
 use login_hall::Hall;
+use script_lines::{is_skipped, number};
 use sqlite_items::Items;
 use std::alloc::Global;
 use std::marker::Brand;

@@ -1,0 +1,5 @@
+pub mod Asks
+pub mod Lines
+pub mod Numbers
+pub mod Pairs
+pub mod Places
