@@ -1,6 +1,6 @@
 ghost use Rattle.std.specs.Prelude.{◌≡◌, IfOk};
 ghost use Rattle.std.specs.Option.{option_copied};
-ghost use Rattle.script_lines.specs.Asks.{exact_name, user_name, has_replacement, is_password, password_text, password_given, optional_password};
+ghost use Rattle.script_lines.specs.Credentials.{exact_name, user_name, has_replacement, is_password, password_text, password_given, optional_password};
 
 use crate::pairs::{Pair, has, value_of};
 use crate::place::Place;
@@ -37,9 +37,9 @@ pub fn user_name(alloc: Global, value: Option<&[u8]>) -> Result<Option<Name>, Me
 }
 
 /// Whether the character U+FFFD stands somewhere in the text.
-#[tactic(auto, unfolding(crate::specs::Asks::has_replacement))]
-fn has_replacement(text: &[u8]) -> bool
-    ensures { result ≡ has_replacement text.now }
+#[tactic(auto, unfolding(crate::specs::Credentials::has_replacement))]
+pub fn has_replacement(text: &[u8]) -> bool
+    ensures value { result ≡ has_replacement text.now }
 {
     let mut rest = text;
     while let Some((_, more)) = rest.split_first() {

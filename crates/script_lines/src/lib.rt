@@ -3,17 +3,21 @@
 //!
 //! - `lines`: a line, its moment, its draw number and its verb; `numbers`: decimal numbers
 //! - `pairs`: form-urlencoded pairs; `place`: where a line is malformed
-//! - `credentials`: names and passwords
-//! - `verbs`: the pairs of each verb; `post_target`, `post`: those of a post
+//! - `credentials`, `keys`: names, passwords and ids in pairs
+//! - `verbs`: the ask of each verb; `new_tab`, `post_target` and `post`, `user_add`, `realm_put`: its pairs
 #![tactic(auto)]
 
 mod credentials;
+mod keys;
 mod lines;
+mod new_tab;
 mod numbers;
 mod pairs;
 mod place;
 mod post;
 mod post_target;
+mod realm_put;
+mod user_add;
 mod verbs;
 
 pub use lines::{LINE_LIMIT, LineAsk, is_skipped, line_ask};

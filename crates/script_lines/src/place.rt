@@ -1,9 +1,9 @@
 ghost use Rattle.std.specs.Prelude.{◌≡◌, IfOk, IsTrue};
 ghost use Rattle.asks.specs.declared.ask.Ask.TheVariants as asks;
 ghost use Rattle.login_base.specs.Names.{is_name};
-ghost use Rattle.script_lines.specs.Asks.{ask_or_bad};
-ghost use Rattle.script_lines.specs.Places.{place_text};
+ghost use Rattle.script_lines.specs.Places.{place_text, ask_or_bad, absent};
 
+use crate::pairs::{Pair, has};
 use asks::Ask;
 use login_base::{Memory, Name};
 use std::alloc::Global;
@@ -25,6 +25,7 @@ pub enum Place {
     Otp,
     Roles,
     Actions,
+    Text,
 }
 
 impl Place {
@@ -48,10 +49,12 @@ impl Place {
             Place::Otp => b"otp",
             Place::Roles => b"roles",
             Place::Actions => b"actions",
+            Place::Text => b"text",
         }
     }
 }
 
+/// A line that is malformed at this place.
 pub fn bad(alloc: Global, place: Place) -> Result<Ask, Memory>
     ensures ask { IfOk result (λ ask. ask ≡ asks.Bad (place_text place)) }
 {
@@ -67,4 +70,14 @@ pub fn ask_or_bad(alloc: Global, read: Result<Ask, Place>) -> Result<Ask, Memory
         Ok(ask) => Ok(ask),
         Err(place) => bad(alloc, place),
     }
+}
+
+/// The pair of this name isn't there.
+pub fn absent(place: Place, pairs: &[Pair]) -> Result<(), Place>
+    ensures absent { result ≡ absent place pairs.now }
+{
+    if has(pairs, place.text()) {
+        return Err(place);
+    }
+    Ok(())
 }

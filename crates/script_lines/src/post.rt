@@ -1,5 +1,6 @@
 ghost use Rattle.std.specs.Prelude.{◌≡◌, IfOk};
-ghost use Rattle.script_lines.specs.Asks.{ask_or_bad, form_with, form_of, post};
+ghost use Rattle.script_lines.specs.Places.{ask_or_bad};
+ghost use Rattle.script_lines.specs.Posts.{form_with, form_of, post};
 
 use crate::credentials::{exact_name, password_text, user_name};
 use crate::pairs::{Pair, value_of};
@@ -10,7 +11,7 @@ use login_base::{Memory, Name, Sequence};
 use std::alloc::Global;
 
 /// The form of this kind, whose texts are none where they aren't well-formed.
-#[tactic(auto, unfolding(crate::specs::Asks::form_with))]
+#[tactic(auto, unfolding(crate::specs::Posts::form_with))]
 fn form_with(
     kind: FormKind,
     execution: Option<Name>,

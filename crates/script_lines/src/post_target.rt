@@ -1,10 +1,10 @@
 ghost use Rattle.std.specs.Prelude.{◌≡◌};
-ghost use Rattle.std.specs.Option.{option_copied};
-ghost use Rattle.script_lines.specs.Asks.{root_from, root_given, id_given, kind_with, form_kind, post_target};
+ghost use Rattle.script_lines.specs.Posts.{kind_with, form_kind, post_target};
 
-use crate::pairs::{Pair, has, value_of};
+use crate::keys::{id_given, root_given};
+use crate::pairs::{Pair, has};
 use crate::place::Place;
-use login_base::{Code, Id, RootKey, TabKey, read_id};
+use login_base::{Code, RootKey, TabKey};
 
 /// Which form a post carries.
 #[derive(Clone, Copy, Debug, PartialEq, Eq)]
@@ -21,43 +21,6 @@ pub struct PostTarget {
     pub tab: TabKey,
     pub code: Code,
     pub form: FormKind,
-}
-
-/// A root: one outside the grammar counts as absent, and two are malformed.
-fn root_from(value: Option<&[u8]>) -> Result<Option<RootKey>, Place>
-    ensures { result ≡ root_from (option_copied value.entry) }
-{
-    match value {
-        Some(value) => match read_id(value) {
-            Some(id) => Ok(Some(RootKey(id))),
-            None => Ok(None),
-        },
-        None => Err(Place::Root),
-    }
-}
-
-/// A root may be given.
-pub fn root_given(pairs: &[Pair]) -> Result<Option<RootKey>, Place>
-    ensures root { result ≡ root_given pairs.now }
-{
-    if has(pairs, b"root") {
-        root_from(value_of(pairs, b"root"))
-    } else {
-        Ok(None)
-    }
-}
-
-/// An id is given at this place.
-pub fn id_given(place: Place, pairs: &[Pair]) -> Result<Id, Place>
-    ensures id { result ≡ id_given place pairs.now }
-{
-    match value_of(pairs, place.text()) {
-        Some(value) => match read_id(value) {
-            Some(id) => Ok(id),
-            None => Err(place),
-        },
-        None => Err(place),
-    }
 }
 
 /// The form of a name, a password, or both.
@@ -84,7 +47,7 @@ fn form_kind(pairs: &[Pair]) -> Result<FormKind, Place>
 }
 
 /// What a post is posted to, where these pairs are well-formed.
-#[tactic(auto, unfolding(crate::specs::Asks::post_target))]
+#[tactic(auto, unfolding(crate::specs::Posts::post_target))]
 pub fn post_target(pairs: &[Pair]) -> Result<PostTarget, Place>
     ensures to { result ≡ post_target pairs.now }
 {

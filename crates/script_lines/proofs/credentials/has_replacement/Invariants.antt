@@ -1,5 +1,5 @@
 use Rattle.std.proofs.Common.{◌≡◌, length}
-use Rattle.script_lines.specs.Asks.{has_replacement}
+use Rattle.script_lines.specs.Credentials.{has_replacement}
 use Rattle.script_lines.proofs.credentials.has_replacement.Given as goal
 
 abbrev pub invariant-loop-more : goal.invariant-loop-more
