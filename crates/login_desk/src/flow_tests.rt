@@ -277,7 +277,7 @@ refused 9 Stale current=-
 4000 400 open client=desk",
         "root=[1/200] tab=[2/202] refused 22 DeadEnd
 refused 22 DeadEnd
-refused 1 BadForm at=client
+refused 3 UnknownClient
 ",
     ),
     // A post comes to a dead end, and the name stays.
