@@ -1,7 +1,5 @@
 mod KnownLemmas
 mod LineLemmas
-mod NumberLemmas
-mod PairLemmas
 mod PlayLemmas
 mod RunLemmas
 mod TakingLemmas

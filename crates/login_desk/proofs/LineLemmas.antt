@@ -3,7 +3,7 @@ use Rattle.std.proofs.Common.{◌≡◌, ◌≢◌, ℕ, ◌+◌, ◌<◌, ◌�
 use Rattle.std.specs.Prelude.{nat_le, nat_lt}
 use Rattle.std.proofs.lemmas.List.{append-nil, length-append}
 use Rattle.std.proofs.lemmas.Bool.Decides.{nat_tests}
-use Rattle.login_desk.specs.Lines.{IsLine, line_limit, is_skipped, bad_head, parts_ask, line_ask}
+use Rattle.script_lines.specs.Lines.{IsLine, line_limit, is_skipped, bad_head, parts_ask, line_ask}
 use Rattle.login_desk.specs.Intake.{IsFront, with_byte}
 
 pub IsLine-push : (line : List ℕ) (b : ℕ) → IsLine line → b ≢ 10 → IsLine (line ++ b ∷ [])

@@ -16,12 +16,12 @@ use Rattle.login_hall.specs.Found.{solved_of}
 use Rattle.login_hall.specs.Growth.{chronicle_of, last_moment}
 use Rattle.login_hall.specs.HallState.{HallState, facts_of}
 use Rattle.login_hall.specs.Legal.{entry_due}
-use Rattle.login_desk.specs.declared.lines.LineAsk.{LineAsk}
+use Rattle.script_lines.specs.declared.lines.LineAsk.{LineAsk}
 use Rattle.login_desk.specs.declared.turn.Turn.{Turn}
 use Rattle.login_desk.specs.declared.turn.Turn.TheVariants as turns
 use Rattle.login_desk.specs.Going.{Going}
 use Rattle.login_desk.specs.Intake.{Held, rest, IsFront, TakesLine, TakesLast, FindsEnd, MeetsFault, MeetsLimit}
-use Rattle.login_desk.specs.Lines.{lines, whole_lines, IsLine, line_limit, with_newline, unlines, is_skipped}
+use Rattle.script_lines.specs.Lines.{lines, whole_lines, IsLine, line_limit, with_newline, unlines, is_skipped}
 use Rattle.login_desk.specs.Outcome.{IsAnswered, IsStopped, IsOverlong, IsStarved, IsCutOff, PlayEnds, end_of}
 use Rattle.login_desk.specs.Outcome.IsReplyDue.{Whole, Ended}
 use Rattle.login_desk.specs.Outside.{OutsideState, IsUnread}

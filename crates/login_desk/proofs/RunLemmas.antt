@@ -8,7 +8,7 @@ use Rattle.login_desk.specs.declared.command.Command.{Command}
 use Rattle.login_desk.specs.declared.command.Command.TheVariants as commands
 use Rattle.login_desk.specs.declared.status.Outcome.{Outcome}
 use Rattle.login_desk.specs.declared.status.Outcome.TheVariants as outcomes
-use Rattle.login_desk.specs.Lines.{whole_lines}
+use Rattle.script_lines.specs.Lines.{whole_lines}
 use Rattle.login_desk.specs.Outcome.{IsAnswered, IsStopped, IsOverlong, IsStarved, read_line, script_line}
 use Rattle.login_desk.specs.Outcome.IsReplyDue.{Fault, Limit}
 use Rattle.login_desk.specs.Outside.{OutsideState, IsUnread}

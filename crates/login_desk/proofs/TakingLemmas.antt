@@ -3,7 +3,7 @@ use Rattle.std.proofs.Common.{◌≡◌, ◌≢◌, ℕ, ◌+◌, List, [], ◌�
 use Rattle.std.specs.Prelude.{Option}
 use Rattle.std.proofs.lemmas.List.{length-append}
 use Rattle.login_base.specs.Outside.{before_known}
-use Rattle.login_desk.specs.Lines.{line_limit}
+use Rattle.script_lines.specs.Lines.{line_limit}
 use Rattle.login_desk.specs.Intake.{Held, rest, Taking, with_byte}
 use Rattle.login_desk.proofs.KnownLemmas.{before_known-nil, one_more}
 use Rattle.login_desk.proofs.LineLemmas.{IsLine-push, IsFront-nil, IsFront-push}

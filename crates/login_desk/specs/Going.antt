@@ -6,7 +6,7 @@ use Rattle.facts.specs.Realms.{has_realm, last_version}
 use Rattle.facts.specs.Serials.{last_tab_serial, last_stored_serial}
 use Rattle.login_base.specs.Outside.{after_known, before_known}
 use Rattle.login_hall.specs.HallState.{HallState, facts_of}
-use Rattle.login_desk.specs.Lines.{IsLine, unlines}
+use Rattle.script_lines.specs.Lines.{IsLine, unlines}
 use Rattle.login_desk.specs.Intake.{Held, rest}
 use Rattle.login_desk.specs.Outside.{OutsideState}
 use Rattle.login_desk.specs.Play.{play, play_text}

@@ -1,7 +1,7 @@
 -- Bytes and lines that are taken from a source.
 use Rattle.std.specs.Prelude.{◌≡◌, ℕ, ◌+◌, ◌^◌, ◌<◌, ◌≤◌, Bool, true, false, nat_le, List, [], ◌∷◌, ◌++◌, length, Option, if◌then◌else◌}
 use Rattle.login_base.specs.Outside.{before_known, counted, IsAtEnd}
-use Rattle.login_desk.specs.Lines.{IsLine, with_newline, line_limit}
+use Rattle.script_lines.specs.Lines.{IsLine, with_newline, line_limit}
 use Rattle.login_desk.specs.declared.intake.Byte.{Byte}
 use Rattle.login_desk.specs.declared.intake.Byte.TheVariants as bytes
 use Rattle.login_desk.specs.declared.intake.Refill.{Refill}

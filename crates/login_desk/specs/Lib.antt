@@ -1,13 +1,8 @@
-pub mod Asks
 pub mod Command
 pub mod Going
 pub mod Intake
-pub mod Lines
-pub mod Numbers
 pub mod Outcome
 pub mod Outside
-pub mod Pairs
-pub mod Places
 pub mod Play
 pub mod Run
 pub mod Statuses

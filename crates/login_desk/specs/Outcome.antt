@@ -2,7 +2,7 @@
 use Rattle.std.specs.Prelude.{◌≡◌, ℕ, ◌^◌, ◌<◌, List, [], ◌++◌, length, Option, codes, ◌∷◌}
 use Rattle.facts.specs.declared.fact.Fact.{Fact}
 use Rattle.login_base.specs.Outside.{before_known, after_known, IsAtEnd, Rose}
-use Rattle.login_desk.specs.Lines.{lines, whole_lines}
+use Rattle.script_lines.specs.Lines.{lines, whole_lines}
 use Rattle.login_desk.specs.Outside.{OutsideState}
 use Rattle.login_desk.specs.Play.{play_text}
 use Rattle.login_desk.specs.Turn.{WritesFront}

@@ -10,8 +10,8 @@ use Rattle.login_base.specs.declared.draws.Draws.{Draws}
 use Rattle.login_hall.specs.Found.{solved_of}
 use Rattle.login_hall.specs.Growth.{chronicle_of, last_moment}
 use Rattle.login_hall.specs.Legal.{entry_due}
-use Rattle.login_desk.specs.declared.lines.LineAsk.{LineAsk}
-use Rattle.login_desk.specs.Lines.{line_ask, is_skipped}
+use Rattle.script_lines.specs.declared.lines.LineAsk.{LineAsk}
+use Rattle.script_lines.specs.Lines.{line_ask, is_skipped}
 
 -- the base without a realm of its own: one mark of zeros, and the built-in realm, which the start puts as version 1
 abbrev pub first_base : List Fact

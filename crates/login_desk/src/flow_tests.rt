@@ -3,13 +3,12 @@ ghost use Rattle.std.specs.Prelude.{◌≡◌, ◌<◌, true, OnOk};
 ghost use Rattle.facts.specs.Realms.{has_realm};
 ghost use Rattle.login_hall.specs.HallState.{facts_of};
 
-use crate::lines::is_skipped;
-use crate::number::number;
 use crate::turn::enter_line;
 use facts::Realm;
 use flow_tree::{Body, Exec, Kind, Requirement, Tree};
 use login_base::{Duplicate, Id, Steps, id_text, read_name};
 use login_hall::Hall;
+use script_lines::{is_skipped, number};
 use sqlite_items::Items;
 use std::alloc::Global;
 use std::marker::Brand;
@@ -278,7 +277,7 @@ refused 9 Stale current=-
 4000 400 open client=desk",
         "root=[1/200] tab=[2/202] refused 22 DeadEnd
 refused 22 DeadEnd
-refused 1 BadForm at=client
+refused 3 UnknownClient
 ",
     ),
     // A post comes to a dead end, and the name stays.

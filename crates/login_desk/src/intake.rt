@@ -1,10 +1,10 @@
 ghost use Rattle.std.specs.Prelude.{◌≡◌, ◌<◌, ◌≤◌, ◌^◌, ◌+◌, ◌++◌, [], ◌∷◌, length, true, IfOk, OnOk, IsTrue, vec_len};
 ghost use Rattle.login_base.specs.Outside.{Rose, ReadTakes, IsAtEnd, is_end as is_read_end, ends_after};
 ghost use Rattle.login_desk.specs.Intake.{Refills, TakesByte, TakesNext, ends_with, is_refill_end, is_byte_end, is_end, kept_of, with_byte};
-ghost use Rattle.login_desk.specs.Lines.{line_limit};
+ghost use Rattle.script_lines.specs.Lines.{line_limit};
 
-use crate::lines::LINE_LIMIT;
 use login_base::{Memory, Read, Source};
+use script_lines::LINE_LIMIT;
 use std::alloc::Global;
 use std::marker::Model;
 

@@ -3,21 +3,13 @@
 //! of the command line, standard input and standard output.
 #![tactic(auto)]
 
-mod asks;
 mod command;
-mod credentials;
 mod edge;
 #[cfg(test)]
 mod flow_tests;
 mod intake;
-mod lines;
-mod number;
 mod outside;
-mod pairs;
-mod place;
 mod play;
-mod post;
-mod post_target;
 mod run;
 mod status;
 #[cfg(test)]

@@ -1,7 +1,7 @@
 ghost use Rattle.std.specs.Prelude.{◌≡◌, ◌≤◌, ◌+◌, ◌^◌, length};
 ghost use Rattle.login_base.specs.Outside.{Rose, PutAdds};
 ghost use Rattle.login_desk.specs.Intake.{TakesNext, ends_with, is_end, kept_of};
-ghost use Rattle.login_desk.specs.Lines.{line_limit};
+ghost use Rattle.script_lines.specs.Lines.{line_limit};
 ghost use Rattle.login_desk.specs.Outside.{IsUnread, IsUnwritten};
 
 use crate::intake::{Intake, Next};

@@ -6,17 +6,17 @@ ghost use Rattle.login_base.specs.Outside.{Rose};
 ghost use Rattle.login_hall.specs.Begun.{solution_of};
 ghost use Rattle.login_hall.specs.HallState.{facts_of, IsUnchanged};
 ghost use Rattle.login_hall.specs.Legal.{Follows, Raises};
-ghost use Rattle.login_desk.specs.Lines.{is_skipped};
+ghost use Rattle.script_lines.specs.Lines.{is_skipped};
 ghost use Rattle.login_desk.specs.Outside.{IsUnread};
 ghost use Rattle.login_desk.specs.Play.{entry_of_line};
 ghost use Rattle.login_desk.specs.Turn.{Answers, TurnEnds, line_play};
 
-use crate::lines::{LineAsk, is_skipped, line_ask};
 use crate::outside::Outside;
 use facts::{Reply, Solved};
 use login_base::{Memory, Put, Sink, Source, Steps, discard};
 use login_hall::{Begun, Hall, Proposal};
 use reply_words::words_of;
+use script_lines::{LineAsk, is_skipped, line_ask};
 use std::alloc::Global;
 use std::sync::ledger::Ledger;
 

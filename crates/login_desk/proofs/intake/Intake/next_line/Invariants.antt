@@ -1,6 +1,6 @@
 use Rattle.std.proofs.Common.{◌≡◌, ◌≤◌, ◌+◌, ◌^◌, length}
 use Rattle.login_desk.specs.Intake.{Taking}
-use Rattle.login_desk.specs.Lines.{line_limit}
+use Rattle.script_lines.specs.Lines.{line_limit}
 use Rattle.login_desk.proofs.intake.Intake.next_line.Given as goal
 
 abbrev pub invariant-loop : goal.invariant-loop

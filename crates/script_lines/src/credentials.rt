@@ -1,0 +1,100 @@
+ghost use Rattle.std.specs.Prelude.{◌≡◌, IfOk};
+ghost use Rattle.std.specs.Option.{option_copied};
+ghost use Rattle.script_lines.specs.Credentials.{exact_name, user_name, has_replacement, is_password, password_text, password_given, optional_password};
+
+use crate::pairs::{Pair, has, value_of};
+use crate::place::Place;
+use login_base::{Memory, Name, Sequence, read_name};
+use std::alloc::Global;
+
+/// The most bytes of a password.
+const MOST_PASSWORD: usize = 256;
+
+/// The character that stands where bytes weren't UTF-8, in UTF-8.
+const REPLACEMENT: [u8; 3] = [0xef, 0xbf, 0xbd];
+
+/// A name as it is written, whose capitals aren't read as small letters.
+pub fn exact_name(alloc: Global, value: Option<&[u8]>) -> Result<Option<Name>, Memory>
+    ensures name { IfOk result (λ name. name ≡ exact_name (option_copied value.entry)) }
+{
+    match value {
+        Some(value) => read_name(alloc, value),
+        None => Ok(None),
+    }
+}
+
+/// The name of a user, whose capitals are read as small letters.
+pub fn user_name(alloc: Global, value: Option<&[u8]>) -> Result<Option<Name>, Memory>
+    ensures { IfOk result (λ name. name ≡ user_name (option_copied value.entry)) }
+{
+    match value {
+        Some(value) => {
+            let text = value.to_ascii_lowercase(alloc)?;
+            read_name(alloc, text.as_slice())
+        }
+        None => Ok(None),
+    }
+}
+
+/// Whether the character U+FFFD stands somewhere in the text.
+#[tactic(auto, unfolding(crate::specs::Credentials::has_replacement))]
+pub fn has_replacement(text: &[u8]) -> bool
+    ensures value { result ≡ has_replacement text.now }
+{
+    let mut rest = text;
+    while let Some((_, more)) = rest.split_first() {
+        if rest.starts_with(&REPLACEMENT) {
+            return true;
+        }
+        rest = more;
+    }
+    false
+}
+
+/// Whether a text is a password: 1 to 256 bytes of UTF-8.
+fn is_password(value: &[u8]) -> bool
+    ensures { result ≡ is_password value.now }
+{
+    !value.is_empty() && value.len() <= MOST_PASSWORD && !has_replacement(value)
+}
+
+/// A copy of a password, where it is well-formed.
+pub fn password_text(alloc: Global, value: Option<&[u8]>) -> Result<Option<Sequence<u8>>, Memory>
+    ensures password { IfOk result (λ password. password ≡ password_text (option_copied value.entry)) }
+{
+    match value {
+        Some(value) if is_password(value) => copy_of(alloc, Some(value)),
+        _ => Ok(None),
+    }
+}
+
+/// A password is given.
+pub fn password_given(value: Option<&[u8]>) -> Result<(), Place>
+    ensures form { result ≡ password_given (option_copied value.entry) }
+{
+    match value {
+        Some(value) if is_password(value) => Ok(()),
+        _ => Err(Place::Password),
+    }
+}
+
+/// No password is given, or a well-formed one.
+pub fn optional_password(pairs: &[Pair]) -> Result<(), Place>
+    ensures form { result ≡ optional_password pairs.now }
+{
+    if has(pairs, b"password") {
+        password_given(value_of(pairs, b"password"))
+    } else {
+        Ok(())
+    }
+}
+
+/// A copy of a value, where it is there.
+pub fn copy_of(alloc: Global, value: Option<&[u8]>) -> Result<Option<Sequence<u8>>, Memory>
+    ensures ok { IfOk result (λ copy. copy ≡ option_copied value.entry) }
+{
+    match value {
+        Some(value) => Ok(Some(Sequence::from_vec(Vec::from_slice(alloc, value)?))),
+        None => Ok(None),
+    }
+}

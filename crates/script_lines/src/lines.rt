@@ -1,0 +1,110 @@
+ghost use Rattle.std.specs.Prelude.{◌≡◌, IfOk};
+ghost use Rattle.form_urlencoded.specs.Form.{split_once};
+ghost use Rattle.script_lines.specs.Lines.{line_ask, parts_ask, is_skipped, draws_from, bad_head};
+
+use crate::numbers::number;
+use crate::pairs::pairs_of;
+use crate::place::{Place, bad};
+use crate::verbs::verb_ask;
+use asks::Ask;
+use login_base::{Draws, Memory};
+use std::alloc::Global;
+
+/// The most bytes of a line that asks something, without its newline.
+pub const LINE_LIMIT: usize = 131_072;
+
+/// The last moment that a line can name.
+const LAST_MOMENT: u64 = (1 << 53) - 1;
+
+/// What a line asks.
+#[derive(Debug, Drop)]
+pub struct LineAsk {
+    /// In milliseconds, below 2^53.
+    pub moment: u64,
+    pub draws: Draws,
+    pub ask: Ask,
+}
+
+/// The ten draws of a draw number: the number and those that follow it, modulo 2^64.
+fn draws_from(draw: u64) -> Draws
+    ensures { result ≡ draws_from draw }
+{
+    Draws([
+        draw,
+        draw.wrapping_add(1),
+        draw.wrapping_add(2),
+        draw.wrapping_add(3),
+        draw.wrapping_add(4),
+        draw.wrapping_add(5),
+        draw.wrapping_add(6),
+        draw.wrapping_add(7),
+        draw.wrapping_add(8),
+        draw.wrapping_add(9),
+    ])
+}
+
+/// Whether a line asks nothing: it is empty, or a comment.
+pub fn is_skipped(line: &[u8]) -> bool
+    ensures value { result ≡ is_skipped line.now }
+{
+    match line {
+        [] => true,
+        [first, ..] => *first == b'#',
+    }
+}
+
+/// The bytes before the first space, or all, and those after it.
+fn split_space(text: &[u8]) -> (&[u8], &[u8])
+    ensures before { result.0.now ≡ (split_once 32 text.now).0 }
+    ensures after { result.1.now ≡ (split_once 32 text.now).1 }
+{
+    match text.iter().position(|b| *b == b' ') {
+        Some(i) => (&text[..i], &text[i + 1..]),
+        None => (text, &[]),
+    }
+}
+
+/// What a line without a readable head asks.
+fn bad_head(alloc: Global) -> Result<LineAsk, Memory>
+    ensures ask { IfOk result (λ ask. ask ≡ bad_head) }
+{
+    let ask = bad(alloc, Place::Head)?;
+    Ok(LineAsk {
+        moment: 0,
+        draws: draws_from(0),
+        ask,
+    })
+}
+
+/// What a line within the limit asks.
+#[tactic(auto, unfolding(crate::specs::Lines::parts_ask))]
+fn parts_ask(alloc: Global, line: &[u8]) -> Result<LineAsk, Memory>
+    ensures ask { IfOk result (λ ask. ask ≡ parts_ask line.now) }
+{
+    let (moment, rest) = split_space(line);
+    let (draw, rest) = split_space(rest);
+    let (verb, pairs) = split_space(rest);
+    match (number(moment, LAST_MOMENT), number(draw, u64::MAX)) {
+        (Some(moment), Some(draw)) => {
+            let pairs = pairs_of(alloc, pairs)?;
+            let ask = verb_ask(alloc, verb, pairs.as_slice())?;
+            Ok(LineAsk {
+                moment,
+                draws: draws_from(draw),
+                ask,
+            })
+        }
+        _ => bad_head(alloc),
+    }
+}
+
+/// What a line asks.
+#[tactic(auto, unfolding(crate::specs::Lines::line_ask))]
+pub fn line_ask(alloc: Global, line: &[u8]) -> Result<LineAsk, Memory>
+    ensures ask { IfOk result (λ ask. ask ≡ line_ask line.now) }
+{
+    if line.len() > LINE_LIMIT {
+        return bad_head(alloc);
+    }
+    parts_ask(alloc, line)
+}

@@ -1,0 +1,48 @@
+ghost use Rattle.std.specs.Prelude.{◌≡◌, IfOk};
+ghost use Rattle.script_lines.specs.Asks.{page, verb_ask};
+
+use crate::keys::{id_given, root_given};
+use crate::new_tab::open_ask;
+use crate::pairs::Pair;
+use crate::place::{Place, ask_or_bad, bad};
+use crate::post::post_ask;
+use crate::realm_put::realm_put_ask;
+use crate::user_add::user_add_ask;
+use asks::Ask;
+use login_base::{Memory, TabKey};
+use std::alloc::Global;
+
+#[tactic(auto, unfolding(crate::specs::Asks::page))]
+fn page(pairs: &[Pair]) -> Result<Ask, Place>
+    ensures { result ≡ page pairs.now }
+{
+    let root = root_given(pairs)?;
+    let tab = id_given(Place::Tab, pairs)?;
+    Ok(Ask::Page {
+        root,
+        tab: TabKey(tab),
+    })
+}
+
+/// The ask of a verb and its pairs.
+#[tactic(auto, unfolding(crate::specs::Asks::verb_ask))]
+pub fn verb_ask(alloc: Global, verb: &[u8], pairs: &[Pair]) -> Result<Ask, Memory>
+    ensures ask { IfOk result (λ ask. ask ≡ verb_ask verb.now pairs.now) }
+{
+    if verb == b"open".as_slice() {
+        return open_ask(alloc, pairs);
+    }
+    if verb == b"user-add".as_slice() {
+        return user_add_ask(alloc, pairs);
+    }
+    if verb == b"realm-put".as_slice() {
+        return realm_put_ask(alloc, pairs);
+    }
+    if verb == b"page".as_slice() {
+        return ask_or_bad(alloc, page(pairs));
+    }
+    if verb == b"post".as_slice() {
+        return post_ask(alloc, pairs);
+    }
+    bad(alloc, Place::Verb)
+}
