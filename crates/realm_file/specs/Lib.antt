@@ -1,1 +1,4 @@
+pub mod Execs
+pub mod FaultWords
 pub mod RealmFile
+pub mod Rules

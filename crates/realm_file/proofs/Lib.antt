@@ -1,0 +1,4 @@
+pub mod DocumentLemmas
+pub mod DoubledLemmas
+pub mod ExecLemmas
+pub mod RuleLemmas

@@ -1,0 +1,13 @@
+use Rattle.std.proofs.Common.{◌≡◌}
+use Rattle.toml.specs.View.{members_view}
+use Rattle.login_base.specs.Names.{is_name}
+use Rattle.realm_file.specs.Reading.{only_keys}
+use Rattle.realm_file.proofs.keys.check_names.Given as goal
+
+abbrev pub invariant-members : goal.invariant-members
+invariant-members l =
+    record {
+      can : (goal.iterator-members).can_next l.key-iterator;
+      finite : (goal.iterator-members).is_finite l.key-iterator;
+      same : only_keys is_name l.path (members_view l.key-iterator) ≡ only_keys is_name l.path (members_view l.table.entries);
+    }
