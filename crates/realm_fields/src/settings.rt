@@ -149,7 +149,8 @@ pub fn lone_number_at(
     most: u64,
 ) -> Result<u32, Stop>
     requires { most < 2 ^ 32 }
-    ensures gives { Gives result (required (lone_number key.now least most) path.now group.now (table_view parent.now)) }
+    ensures gives { Gives result
+        (required (lone_number key.now least most) path.now group.now (table_view parent.now)) }
     ensures range { IfOk result (λ n. IsTrue (is_within least most n)) }
 {
     let path = key_path(alloc, path, group.as_bytes())?;
