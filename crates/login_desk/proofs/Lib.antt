@@ -1,6 +1,11 @@
+mod CauseLemmas
+mod FirstLemmas
 mod KnownLemmas
 mod LineLemmas
+mod MovedLemmas
 mod PlayLemmas
 mod RunLemmas
 mod TakingLemmas
-mod FirstLemmas
+mod WholeLemmas
+mod WordLemmas
+mod SizeLemmas

@@ -24,7 +24,7 @@ use Rattle.login_desk.specs.Intake.{Held, rest, IsFront, TakesLine, TakesLast, F
 use Rattle.script_lines.specs.Lines.{lines, whole_lines, IsLine, line_limit, with_newline, unlines, is_skipped}
 use Rattle.login_desk.specs.Outcome.{IsAnswered, IsStopped, IsOverlong, IsStarved, IsCutOff, PlayEnds, end_of}
 use Rattle.login_desk.specs.Outcome.IsReplyDue.{Whole, Ended}
-use Rattle.login_desk.specs.Outside.{OutsideState, IsUnread}
+use Rattle.login_desk.specs.Outside.{SourceState, OutsideState, IsUnread}
 use Rattle.login_desk.specs.Play.{Play, entry_of_line, with_entry, with_line, play, play_text}
 use Rattle.login_desk.specs.Turn.{Answers, TurnEnds, WritesFront, line_play}
 use Rattle.login_desk.proofs.KnownLemmas.{before_known-nil, after_known-nil, after_known-append, one_more}
@@ -123,14 +123,14 @@ facts-start : (hall : HallState) → hall.journal ≡ [] → facts_of hall ≡ h
 unfolding chronicle_of
 facts-start hall j = ap (chronicle_of hall.base) j ∙ append-nil hall.base
 
-pub starts : {S : Type 0} (old : OutsideState S) (held : Held) (hall : HallState) → held.pending ≡ [] → held.taken ≡ 0 → hall.journal ≡ [] → has_realm hall.base ≡ true → Going hall.base old old held hall
+pub starts : {S R : Type 0} (old : OutsideState S R) (held : Held) (hall : HallState) → held.pending ≡ [] → held.taken ≡ 0 → hall.journal ≡ [] → has_realm hall.base ≡ true → Going hall.base old old held hall
 unfolding play
 starts old held hall p t j r =
     let facts = facts-start hall j in
     record {
       done = [];
       plain = tt;
-      came = sym (before_known-nil old.script) ∙ ap (λ l. before_known l old.script) (sym p) ∙ sym (before_known-nil (rest held old.script));
+      came = sym (before_known-nil old.script.left) ∙ ap (λ l. before_known l old.script.left) (sym p) ∙ sym (before_known-nil (rest held old.script.left));
       count = t;
       text = after_known-nil old.written;
       over = refl;
@@ -139,12 +139,13 @@ starts old held hall p t j r =
       tabs = omega (arith, ap last_tab_serial facts);
       stored = omega (arith, ap last_stored_serial facts);
       version = omega (arith, ap last_version facts);
+      unread = refl;
       reads = omega arith;
       puts = omega arith;
       ends = refl;
     }
 
-module _ {S : Type 0} (base : List Fact) (old now : OutsideState S) (held : Held) (hall : HallState) (h : Going base old now held hall) where
+module _ {S R : Type 0} (base : List Fact) (old now : OutsideState S R) (held : Held) (hall : HallState) (h : Going base old now held hall) where
   -- so few lines leave room for more serials
   pub few_serials : HasSerials base (2 ^ 62) → held.taken ≤ 2 ^ 32 → HasSerials (facts_of hall) (2 ^ 63 - 8)
   few_serials first le = record {
@@ -175,15 +176,15 @@ module _ {S : Type 0} (base : List Fact) (old now : OutsideState S) (held : Held
     written = w.written ∙ ap (λ x. after_known x w.front) h.text ∙ after_known-append old.written (play_text base h.done) w.front;
   }
 
-  pub starved : (new : OutsideState S) → new.written ≡ now.written → IsStarved base old new
+  pub starved : (new : OutsideState S R) → new.written ≡ now.written → IsStarved base old new
   starved new e = record {
     bytes = unlines h.done;
-    later = rest held now.script;
+    later = rest held now.script.left;
     taken = h.came;
     text = e ∙ h.text ∙ ap (λ l. after_known old.written (play_text base l)) (sym (whole_lines-all h.done h.plain));
   }
 
-  pub answered : (new : OutsideState S) → new.written ≡ now.written → FindsEnd held now.script new.script → IsAnswered base old new
+  pub answered : (new : OutsideState S R) → new.written ≡ now.written → FindsEnd held now.script.left new.script.left → IsAnswered base old new
   answered new e t = record {
     bytes = unlines h.done;
     taken = h.came ∙ ap (before_known (unlines h.done)) t.came;
@@ -197,44 +198,44 @@ module _ {S : Type 0} (base : List Fact) (old now : OutsideState S) (held : Held
       e ∙ h.text ∙ ap (λ l. after_known old.written (play_text base l)) (sym (whole_lines-unlines h.done part h.plain p))
       ∙ ap (after_known old.written) (sym (append-nil (play_text base (whole_lines (unlines h.done ++ part)))))
 
-  pub stopped : (new : OutsideState S) → new.written ≡ now.written → MeetsFault held now.script new.script → IsStopped base old new []
+  pub stopped : (new : OutsideState S R) → new.written ≡ now.written → MeetsFault held now.script.left new.script.left → IsStopped base old new []
   stopped new e t = record {
     bytes = unlines h.done ++ t.part;
-    taken = one_more old.script (rest held now.script) new.script (unlines h.done) t.part h.came t.came;
+    taken = one_more old.script.left (rest held now.script.left) new.script.left (unlines h.done) t.part h.came t.came;
     short = omega (arith, h.count, t.short, length-append (unlines h.done) t.part);
     text = part_text new.written t.part e t.plain;
   }
 
-  pub overlong : (new : OutsideState S) → new.written ≡ now.written → MeetsLimit held now.script → IsOverlong base old new []
+  pub overlong : (new : OutsideState S R) → new.written ≡ now.written → MeetsLimit held now.script.left → IsOverlong base old new []
   overlong new e t = record {
     bytes = unlines h.done ++ t.part;
     later = t.later;
-    taken = one_more old.script (rest held now.script) t.later (unlines h.done) t.part h.came t.came;
+    taken = one_more old.script.left (rest held now.script.left) t.later (unlines h.done) t.part h.came t.came;
     full = omega (arith, h.count, t.full, length-append (unlines h.done) t.part);
     text = part_text new.written t.part e t.plain;
   }
 
   -- a line was taken, and then something was written
-  module _ (kept : List ℕ) (mid new : OutsideState S) (same : mid.written ≡ now.written) (unread : IsUnread mid new) where
-    module _ (next : Held) (taken : TakesLine held now.script kept next mid.script) where
-      t : TakesLine held now.script kept next new.script
-      t = subst (λ s. TakesLine held now.script kept next s) (sym unread.script) taken
+  module _ (kept : List ℕ) (mid new : OutsideState S R) (same : mid.written ≡ now.written) (unread : IsUnread mid new) where
+    module _ (next : Held) (taken : TakesLine held now.script.left kept next mid.script.left) where
+      t : TakesLine held now.script.left kept next new.script.left
+      t = subst (λ s. TakesLine held now.script.left kept next s) (sym (ap (λ (x : SourceState S). x.left) unread.script)) taken
 
-      came_line : old.script ≡ before_known (unlines (h.done ++ t.line ∷ [])) (rest next new.script)
+      came_line : old.script.left ≡ before_known (unlines (h.done ++ t.line ∷ [])) (rest next new.script.left)
       came_line =
-          one_more old.script (rest held now.script) (rest next new.script) (unlines h.done) (with_newline t.line) h.came t.came
-          ∙ ap (λ l. before_known l (rest next new.script)) (sym (unlines-push h.done t.line))
+          one_more old.script.left (rest held now.script.left) (rest next new.script.left) (unlines h.done) (with_newline t.line) h.came t.came
+          ∙ ap (λ l. before_known l (rest next new.script.left)) (sym (unlines-push h.done t.line))
 
       pub cut : WritesFront mid.written new.written (line_play hall.base hall.journal kept).text → IsCutOff base old new
       cut w = record {
         due = play_text base (h.done ++ t.line ∷ []);
-        is_due = Whole (unlines (h.done ++ t.line ∷ [])) (rest next new.script) came_line (ap (play_text base) (sym (whole_lines-all (h.done ++ t.line ∷ []) (all-push h.done t.line h.plain t.plain))));
+        is_due = Whole (unlines (h.done ++ t.line ∷ [])) (rest next new.script.left) came_line (ap (play_text base) (sym (whole_lines-all (h.done ++ t.line ∷ []) (all-push h.done t.line h.plain t.plain))));
         front = front new.written t.line kept t.front (subst (λ x. WritesFront x new.written (line_play hall.base hall.journal kept).text) same w);
       }
 
-      pub goes_on : (grown : HallState) → Answers hall grown kept → new.written ≡ after_known mid.written (line_play hall.base hall.journal kept).text → now.read_faults ≤ mid.read_faults
-          → now.write_faults ≤ new.write_faults → mid.ends ≡ now.ends → Going base old new next grown
-      goes_on grown a e reads puts ends =
+      pub goes_on : (grown : HallState) → Answers hall grown kept → new.written ≡ after_known mid.written (line_play hall.base hall.journal kept).text → now.script.faults ≤ mid.script.faults
+          → now.write_faults ≤ new.write_faults → mid.script.ends ≡ now.script.ends → mid.realm ≡ now.realm → Going base old new next grown
+      goes_on grown a e reads puts ends realm =
           let pushed : length (h.done ++ t.line ∷ []) ≡ length h.done + 1 = length-append h.done (t.line ∷ []) in
           record {
             done = h.done ++ t.line ∷ [];
@@ -250,17 +251,18 @@ module _ {S : Type 0} (base : List Fact) (old now : OutsideState S) (held : Held
             tabs = omega (arith, a.tabs, h.tabs, pushed);
             stored = omega (arith, a.stored, h.stored, pushed);
             version = omega (arith, a.version, h.version, pushed);
-            reads = omega (arith, reads, h.reads, unread.faults);
+            unread = unread.realm ∙ realm ∙ h.unread;
+            reads = let e = ap (λ (x : SourceState S). x.faults) unread.script in omega (arith, reads, h.reads, e);
             puts = omega (arith, puts, h.puts);
-            ends = unread.ends ∙ ends ∙ h.ends;
+            ends = ap (λ (x : SourceState S). x.ends) unread.script ∙ ends ∙ h.ends;
           }
 
-    module _ (taken : TakesLast held now.script kept mid.script) where
-      last : TakesLast held now.script kept new.script
-      last = subst (λ s. TakesLast held now.script kept s) (sym unread.script) taken
+    module _ (taken : TakesLast held now.script.left kept mid.script.left) where
+      last : TakesLast held now.script.left kept new.script.left
+      last = subst (λ s. TakesLast held now.script.left kept s) (sym (ap (λ (x : SourceState S). x.left) unread.script)) taken
 
-      came_last : old.script ≡ before_known (unlines h.done ++ last.line) new.script
-      came_last = one_more old.script (rest held now.script) new.script (unlines h.done) last.line h.came last.came
+      came_last : old.script.left ≡ before_known (unlines h.done ++ last.line) new.script.left
+      came_last = one_more old.script.left (rest held now.script.left) new.script.left (unlines h.done) last.line h.came last.came
 
       is_last : lines (unlines h.done ++ last.line) ≡ h.done ++ last.line ∷ []
       is_last = lines-with_last h.done last.line h.plain last.plain last.some
@@ -281,6 +283,6 @@ module _ {S : Type 0} (base : List Fact) (old now : OutsideState S) (held : Held
       last_turn grown turns.Memory e = starved new (e ∙ same)
 
 -- nothing was taken, and nothing written
-pub starved_first : {S : Type 0} (base : List Fact) (old : OutsideState S) → IsStarved base old old
+pub starved_first : {S R : Type 0} (base : List Fact) (old : OutsideState S R) → IsStarved base old old
 unfolding whole_lines play
-starved_first base old = record { bytes = []; later = old.script; taken = sym (before_known-nil old.script); text = after_known-nil old.written }
+starved_first base old = record { bytes = []; later = old.script.left; taken = sym (before_known-nil old.script.left); text = after_known-nil old.written }

@@ -1,45 +1,54 @@
--- The cause of each status.
-use Rattle.std.proofs.Common.{◌≡◌, ℕ, ◌^◌, true, List, [], ◌++◌, Some, None, length, refl, sym, ap, ◌∙◌, append_assoc, inl, inr, arith}
-use Rattle.std.specs.Prelude.{Option, ◌⊎◌}
-use Rattle.std.proofs.lemmas.List.{append-nil, length-append}
+-- A run, part after part.
+use Rattle.std.proofs.Common.{◌≡◌, ℕ, ◌<◌, Bool, true, false, List, [], ◌∷◌, ◌++◌, Some, None, Ok, Err, length, refl, sym, ap, subst, ◌∙◌, append_assoc, inl, inr, arith}
+use Rattle.std.specs.Prelude.{Option, Result, ◌⊎◌, if◌then◌else◌}
+use Rattle.std.proofs.lemmas.Bool.{lt-ltb}
+use Rattle.std.proofs.lemmas.List.{append-nil}
 use Rattle.facts.specs.declared.fact.Fact.{Fact}
-use Rattle.login_base.specs.Outside.{before_known, after_known, Rose}
+use Rattle.realm_data.specs.declared.realm_parts.RealmParts.{RealmParts}
+use Rattle.realm_data.specs.RealmBuilt.{is_built}
+use Rattle.realm_fields.specs.declared.fault.RealmFault.TheVariants.{OutOfRange}
+use Rattle.login_hall.specs.Start.{IsPlayable}
+use Rattle.login_base.specs.Outside.{before_known, after_known, Rose, IsAtEnd}
 use Rattle.login_desk.specs.declared.command.Command.{Command}
 use Rattle.login_desk.specs.declared.command.Command.TheVariants as commands
+use Rattle.login_desk.specs.declared.realm_given.NoRealm.{NoRealm}
+use Rattle.login_desk.specs.declared.realm_given.NoRealm.TheVariants as refusals
 use Rattle.login_desk.specs.declared.status.Outcome.{Outcome}
 use Rattle.login_desk.specs.declared.status.Outcome.TheVariants as outcomes
 use Rattle.script_lines.specs.Lines.{whole_lines}
-use Rattle.login_desk.specs.Outcome.{IsAnswered, IsStopped, IsOverlong, IsStarved, read_line, script_line}
+use Rattle.login_desk.specs.Outcome.{IsStopped, IsOverlong, read_line, script_line}
 use Rattle.login_desk.specs.Outcome.IsReplyDue.{Fault, Limit}
-use Rattle.login_desk.specs.Outside.{OutsideState, IsUnread}
-use Rattle.login_desk.specs.Play.{first_base, play_text}
-use Rattle.login_desk.specs.Run.{RunMeans, UsageMeans, ReplayMeans, LineEnds, IsPutFailed, IsShort, is_status, usage_line}
-use Rattle.login_desk.specs.Run.ReplayMeans.{Answered, Stopped, CutOff, Starved, Overlong}
-use Rattle.login_desk.specs.Run.UsageMeans.{Told, Cut}
+use Rattle.login_desk.specs.Outside.{SourceState, OutsideState, IsUnread, IsUnwritten}
+use Rattle.login_desk.specs.Play.{play_text}
+use Rattle.login_desk.specs.RealmGiven.{realm_given, realm_played, realm_for, refusal_line}
+use Rattle.login_desk.specs.Run.{LineMeans, LineEnds, ReplayMeans, BytesMean, CommandMeans}
+use Rattle.login_desk.specs.Run.LineMeans.{Told, Cut}
+use Rattle.login_desk.specs.Run.ReplayMeans.{Stopped, CutOff, Overlong}
+use Rattle.login_desk.specs.Run.BytesMean.{Denied, Unmet, Met}
+use Rattle.login_desk.specs.Run.CommandMeans.{Faulty, Refused, Unmade, Goes}
 use Rattle.login_desk.specs.Statuses.{number_of}
 use Rattle.login_desk.specs.Turn.{WritesFront}
+use Rattle.login_desk.specs.Whole.{TakesTooMany, whole_limit}
 use Rattle.login_desk.proofs.KnownLemmas.{after_known-append}
+use Rattle.login_desk.proofs.MovedLemmas.{line, work}
 
 -- ---- the last line
 
-module _ {S : Type 0} (old new : OutsideState S) (outcome : Outcome) (unread : IsUnread old new) where
-  no_command : LineEnds old.written new.written usage_line outcomes.Usage outcome → UsageMeans old new (number_of outcome)
-  no_command (inl w) = rw w.0 (Told refl unread w.1)
-  no_command (inr w) = rw w.0 (Cut refl unread w.1)
-
-  pub at_usage : (command : Option Command) → command ≡ None → LineEnds old.written new.written usage_line outcomes.Usage outcome → RunMeans command old new (number_of outcome)
-  at_usage None e w = no_command w
-  at_usage (Some commands.Replay) e w = absurd cc
+-- the line was written, or a write failed
+pub line_means : {S R : Type 0} (old new : OutsideState S R) (text : List ℕ) (wanted outcome : Outcome) → LineEnds old.written new.written text wanted outcome
+    → (outcome ≡ outcomes.PutFailed → Rose old.write_faults new.write_faults) → LineMeans text (number_of wanted) old new (number_of outcome)
+line_means old new text wanted outcome (inl w) rose = Told (ap number_of w.0) w.1
+line_means old new text wanted outcome (inr w) rose = Cut (ap number_of w.0) (rose w.0) w.1
 
 -- a text was written, and then the last line in whole or in part
-module _ (before mid after : Option (List ℕ)) (text line : List ℕ) (told : mid ≡ after_known before (text ++ [])) where
+module _ (before mid after : Option (List ℕ)) (text last : List ℕ) (told : mid ≡ after_known before (text ++ [])) where
   told_text : mid ≡ after_known before text
   told_text = told ∙ ap (after_known before) (append-nil text)
 
-  all_after : after ≡ after_known mid line → after ≡ after_known before (text ++ line)
-  all_after e = e ∙ ap (λ x. after_known x line) told_text ∙ after_known-append before text line
+  all_after : after ≡ after_known mid last → after ≡ after_known before (text ++ last)
+  all_after e = e ∙ ap (λ x. after_known x last) told_text ∙ after_known-append before text last
 
-  front_after : WritesFront mid after line → WritesFront before after (text ++ line)
+  front_after : WritesFront mid after last → WritesFront before after (text ++ last)
   front_after w = record {
     front = text ++ w.front;
     unwritten = w.unwritten;
@@ -47,140 +56,104 @@ module _ (before mid after : Option (List ℕ)) (text line : List ℕ) (told : m
     written = w.written ∙ ap (λ x. after_known x w.front) told_text ∙ after_known-append before text w.front;
   }
 
-module _ {S : Type 0} (base : List Fact) (old mid new : OutsideState S) (outcome : Outcome) where
-  pub at_fault : IsStopped base old mid [] → Rose old.read_faults mid.read_faults → IsUnread mid new → LineEnds mid.written new.written read_line outcomes.ReadFailed outcome → ReplayMeans base old new (number_of outcome)
-  at_fault s rose u (inl w) = rw w.0 (Stopped refl (record {
-    bytes = s.bytes;
-    taken = s.taken ∙ ap (before_known s.bytes) (sym u.script);
-    short = s.short;
-    text = all_after old.written mid.written new.written (play_text base (whole_lines s.bytes)) read_line s.text w.1;
-  }))
-  at_fault s rose u (inr w) = rw w.0 (CutOff refl (record {
-    due = play_text base (whole_lines s.bytes) ++ read_line;
-    is_due = Fault (omega (arith, rose, u.faults)) s.bytes (s.taken ∙ ap (before_known s.bytes) (sym u.script)) refl;
-    front = front_after old.written mid.written new.written (play_text base (whole_lines s.bytes)) read_line s.text w.1;
-  }))
+module _ {S R : Type 0} (base : List Fact) (old mid new : OutsideState S R) (outcome : Outcome) (rose_put : outcome ≡ outcomes.PutFailed → Rose old.write_faults new.write_faults) where
+  pub at_fault : IsStopped base old mid [] → Rose old.script.faults mid.script.faults → IsUnread mid new → LineEnds mid.written new.written read_line outcomes.ReadFailed outcome → ReplayMeans base old new (number_of outcome)
+  at_fault s rose u w =
+      let left = ap (λ (x : SourceState S). x.left) (sym u.script) in
+      let taken = s.taken ∙ ap (before_known s.bytes) left in
+      let rose_read = subst (λ (x : SourceState S). Rose old.script.faults x.faults) (sym u.script) rose in
+      go taken rose_read w
+    where
+      text : List ℕ
+      text = play_text base (whole_lines s.bytes)
+
+      go : old.script.left ≡ before_known s.bytes new.script.left → Rose old.script.faults new.script.faults → LineEnds mid.written new.written read_line outcomes.ReadFailed outcome → ReplayMeans base old new (number_of outcome)
+      go taken r (inl w) = Stopped (ap number_of w.0) r (record { bytes = s.bytes; taken = taken; short = s.short; text = all_after old.written mid.written new.written text read_line s.text w.1 })
+      go taken r (inr w) = CutOff (ap number_of w.0) (rose_put w.0) (record {
+        due = text ++ read_line;
+        is_due = Fault r s.bytes taken refl;
+        front = front_after old.written mid.written new.written text read_line s.text w.1;
+      })
 
   pub at_limit : IsOverlong base old mid [] → LineEnds mid.written new.written script_line outcomes.TooLong outcome → ReplayMeans base old new (number_of outcome)
-  at_limit s (inl w) = rw w.0 (Overlong refl (record {
+  at_limit s (inl w) = Overlong (ap number_of w.0) (record {
     bytes = s.bytes;
     later = s.later;
     taken = s.taken;
     full = s.full;
     text = all_after old.written mid.written new.written (play_text base (whole_lines s.bytes)) script_line s.text w.1;
-  }))
-  at_limit s (inr w) = rw w.0 (CutOff refl (record {
+  })
+  at_limit s (inr w) = CutOff (ap number_of w.0) (rose_put w.0) (record {
     due = play_text base (whole_lines s.bytes) ++ script_line;
     is_due = Limit s.bytes s.later s.taken s.full refl;
     front = front_after old.written mid.written new.written (play_text base (whole_lines s.bytes)) script_line s.text w.1;
-  }))
+  })
 
--- ---- each status
+-- ---- the realm, and what comes after it
 
-pub known : (outcome : Outcome) → is_status (number_of outcome) ≡ true
-known outcomes.Done = refl
-known outcomes.Usage = refl
-known outcomes.ReadFailed = refl
-known outcomes.PutFailed = refl
-known outcomes.Memory = refl
-known outcomes.TooLong = refl
+-- a realm with which a replay goes on can be played
+module _ where
+  of_built : (realm : RealmParts) (t : Bool) → is_built realm ≡ t → (given : Option RealmParts) → (if t then Ok (Some realm) else Err refusals.NotYet) ≡ Ok given → IsPlayable given
+  of_built realm true e None h = tt
+  of_built realm true e (Some given) h = let same : realm ≡ given = cc in subst (λ r. is_built r ≡ true) same e
+  of_built realm false e given h = absurd cc
 
-pub is_done : (outcome : Outcome) → number_of outcome ≡ 0 → outcome ≡ outcomes.Done
-is_done outcomes.Done e = refl
-is_done outcomes.Usage e = absurd (omega arith)
-is_done outcomes.ReadFailed e = absurd (omega arith)
-is_done outcomes.PutFailed e = absurd (omega arith)
-is_done outcomes.Memory e = absurd (omega arith)
-is_done outcomes.TooLong e = absurd (omega arith)
+  of_given : (r : Result (Option RealmParts) NoRealm) (given : Option RealmParts) → realm_played r ≡ Ok given → IsPlayable given
+  of_given (Ok None) None h = tt
+  of_given (Ok None) (Some given) h = absurd cc
+  of_given (Ok (Some realm)) given h = of_built realm (is_built realm) refl given h
+  of_given (Err refusal) given h = absurd cc
 
-pub is_read_failed : (outcome : Outcome) → number_of outcome ≡ 4 → outcome ≡ outcomes.ReadFailed
-is_read_failed outcomes.Done e = absurd (omega arith)
-is_read_failed outcomes.Usage e = absurd (omega arith)
-is_read_failed outcomes.ReadFailed e = refl
-is_read_failed outcomes.PutFailed e = absurd (omega arith)
-is_read_failed outcomes.Memory e = absurd (omega arith)
-is_read_failed outcomes.TooLong e = absurd (omega arith)
+  pub playable : (command : Command) (bytes : List ℕ) (given : Option RealmParts) → realm_for command bytes ≡ Ok given → command ≡ commands.Replay → IsPlayable given
+  unfolding realm_for
+  playable commands.Check bytes given h is = absurd cc
+  playable commands.Replay bytes given h is = of_given (realm_given bytes) given h
 
-pub is_put_failed : (outcome : Outcome) → number_of outcome ≡ 5 → outcome ≡ outcomes.PutFailed
-is_put_failed outcomes.Done e = absurd (omega arith)
-is_put_failed outcomes.Usage e = absurd (omega arith)
-is_put_failed outcomes.ReadFailed e = absurd (omega arith)
-is_put_failed outcomes.PutFailed e = refl
-is_put_failed outcomes.Memory e = absurd (omega arith)
-is_put_failed outcomes.TooLong e = absurd (omega arith)
+-- more bytes than a realm may have are none
+pub too_many : (command : Command) (bytes : List ℕ) → whole_limit < length bytes → realm_for command bytes ≡ Err (refusals.Fault (OutOfRange []))
+unfolding realm_for
+too_many command [] many = absurd (omega arith)
+too_many commands.Check (b ∷ bytes) many = rw (lt-ltb whole_limit (length (b ∷ bytes)) many) refl
+too_many commands.Replay (b ∷ bytes) many = rw (lt-ltb whole_limit (length (b ∷ bytes)) many) refl
 
-module _ {S : Type 0} (old new : OutsideState S) (status : ℕ) where
-  pub done : (command : Option Command) → RunMeans command old new status → status ≡ 0 → IsAnswered first_base old new
-  done None (Told s u w) e = absurd (omega arith)
-  done None (Cut s u w) e = absurd (omega arith)
-  done (Some commands.Replay) (Answered s a) e = a
-  done (Some commands.Replay) (Stopped s a) e = absurd (omega arith)
-  done (Some commands.Replay) (CutOff s a) e = absurd (omega arith)
-  done (Some commands.Replay) (Starved s a) e = absurd (omega arith)
-  done (Some commands.Replay) (Overlong s a) e = absurd (omega arith)
+pub denied : {S R : Type 0} (command : Command) (bytes : List ℕ) (old new : OutsideState S R) (refusal : NoRealm) (outcome : Outcome) → new.script ≡ old.script → realm_for command bytes ≡ Err refusal
+    → LineMeans (refusal_line refusal) 3 old new (number_of outcome) ⊎ ((outcome ≡ outcomes.Memory) × (new.written ≡ old.written)) → BytesMean command bytes old new (number_of outcome)
+denied command bytes old new refusal outcome u meant (inl l) = Denied u refusal meant l
+denied command bytes old new refusal outcome u meant (inr w) = Unmet u (ap number_of w.0) w.1
 
-  pub usage : (command : Option Command) → RunMeans command old new status → status ≡ 2 → (command ≡ None) × (new.written ≡ after_known old.written usage_line)
-  usage None (Told s u w) e = (refl, w)
-  usage None (Cut s u w) e = absurd (omega arith)
-  usage (Some commands.Replay) (Answered s a) e = absurd (omega arith)
-  usage (Some commands.Replay) (Stopped s a) e = absurd (omega arith)
-  usage (Some commands.Replay) (CutOff s a) e = absurd (omega arith)
-  usage (Some commands.Replay) (Starved s a) e = absurd (omega arith)
-  usage (Some commands.Replay) (Overlong s a) e = absurd (omega arith)
+module _ {S R : Type 0} (command : Command) (old mid new : OutsideState S R) (script : mid.script ≡ old.script) (unwritten : IsUnwritten old mid) (realm : new.realm ≡ mid.realm) where
+  left : mid.realm.left ≡ new.realm.left
+  left = ap (λ (x : SourceState R). x.left) (sym realm)
 
-  pub read : (command : Option Command) → RunMeans command old new status → status ≡ 4 → IsStopped first_base old new read_line
-  read None (Told s u w) e = absurd (omega arith)
-  read None (Cut s u w) e = absurd (omega arith)
-  read (Some commands.Replay) (Answered s a) e = absurd (omega arith)
-  read (Some commands.Replay) (Stopped s a) e = a
-  read (Some commands.Replay) (CutOff s a) e = absurd (omega arith)
-  read (Some commands.Replay) (Starved s a) e = absurd (omega arith)
-  read (Some commands.Replay) (Overlong s a) e = absurd (omega arith)
+  pub with_bytes : (bytes : List ℕ) (status : ℕ) → old.realm.left ≡ before_known bytes mid.realm.left → IsAtEnd mid.realm.left → BytesMean command bytes mid new status → CommandMeans command old new status
+  with_bytes bytes status taken end (Denied u refusal meant l) = Refused (u ∙ script) refusal (record {
+    bytes = bytes;
+    taken = taken ∙ ap (before_known bytes) left;
+    whole = inl (subst IsAtEnd left end);
+    meant = meant;
+  }) (line old mid new script unwritten _ 3 status l)
+  with_bytes bytes status taken end (Unmet u s w) = Unmade (u ∙ script) s (w ∙ unwritten.written)
+  with_bytes bytes status taken end (Met given meant w) = Goes given (record {
+    bytes = bytes;
+    taken = taken ∙ ap (before_known bytes) left;
+    end = subst IsAtEnd left end;
+    meant = meant;
+  }) (work old mid new script unwritten command given status w)
 
-  pub put : (command : Option Command) → RunMeans command old new status → status ≡ 5 → IsPutFailed command old new
-  put None (Told s u w) e = absurd (omega arith)
-  put None (Cut s u w) e = w
-  put (Some commands.Replay) (Answered s a) e = absurd (omega arith)
-  put (Some commands.Replay) (Stopped s a) e = absurd (omega arith)
-  put (Some commands.Replay) (CutOff s a) e = a
-  put (Some commands.Replay) (Starved s a) e = absurd (omega arith)
-  put (Some commands.Replay) (Overlong s a) e = absurd (omega arith)
+  pub at_many : (outcome : Outcome) → new.script ≡ mid.script → TakesTooMany old.realm.left mid.realm.left
+      → LineMeans (refusal_line (refusals.Fault (OutOfRange []))) 3 mid new (number_of outcome) ⊎ ((outcome ≡ outcomes.Memory) × (new.written ≡ mid.written)) → CommandMeans command old new (number_of outcome)
+  at_many outcome u t (inl l) = Refused (u ∙ script) _ (record {
+    bytes = t.bytes;
+    taken = t.taken ∙ ap (before_known t.bytes) left;
+    whole = inr t.many;
+    meant = too_many command t.bytes t.many;
+  }) (line old mid new script unwritten _ 3 (number_of outcome) l)
+  at_many outcome u t (inr w) = Unmade (u ∙ script) (ap number_of w.0) (w.1 ∙ unwritten.written)
 
-  pub memory : (command : Option Command) → RunMeans command old new status → status ≡ 7 → IsStarved first_base old new
-  memory None (Told s u w) e = absurd (omega arith)
-  memory None (Cut s u w) e = absurd (omega arith)
-  memory (Some commands.Replay) (Answered s a) e = absurd (omega arith)
-  memory (Some commands.Replay) (Stopped s a) e = absurd (omega arith)
-  memory (Some commands.Replay) (CutOff s a) e = absurd (omega arith)
-  memory (Some commands.Replay) (Starved s a) e = a
-  memory (Some commands.Replay) (Overlong s a) e = absurd (omega arith)
-
-  pub long : (command : Option Command) → RunMeans command old new status → status ≡ 9 → IsOverlong first_base old new script_line
-  long None (Told s u w) e = absurd (omega arith)
-  long None (Cut s u w) e = absurd (omega arith)
-  long (Some commands.Replay) (Answered s a) e = absurd (omega arith)
-  long (Some commands.Replay) (Stopped s a) e = absurd (omega arith)
-  long (Some commands.Replay) (CutOff s a) e = absurd (omega arith)
-  long (Some commands.Replay) (Starved s a) e = absurd (omega arith)
-  long (Some commands.Replay) (Overlong s a) e = a
-
-  pub outside : (command : Option Command) → RunMeans command old new status → command ≡ None → (status ≡ 2) ⊎ (status ≡ 5)
-  outside None (Told s u w) e = inl s
-  outside None (Cut s u w) e = inr s
-  outside (Some commands.Replay) r e = absurd cc
-
--- fewer than 2^32 bytes don't begin with so many
-not_short : (script later : Option (List ℕ)) (bytes : List ℕ) → IsShort script → script ≡ before_known bytes later → length bytes ≡ 2 ^ 32 → ⊥
-not_short None later bytes short taken full = short
-not_short (Some all) None bytes short taken full = absurd cc
-not_short (Some all) (Some later) bytes short taken full =
-    let same : all ≡ bytes ++ later = cc in
-    omega (arith, ap length same, length-append bytes later)
-
-pub complete : {S : Type 0} (old new : OutsideState S) (status : ℕ) (command : Option Command) → RunMeans command old new status → command ≡ Some commands.Replay → IsShort old.script → ¬ (status ≡ 4) → ¬ (status ≡ 5) → (status ≡ 0) ⊎ (status ≡ 7)
-complete old new status None r e short reads puts = absurd cc
-complete old new status (Some commands.Replay) (Answered s a) e short reads puts = inl s
-complete old new status (Some commands.Replay) (Stopped s a) e short reads puts = absurd (reads s)
-complete old new status (Some commands.Replay) (CutOff s a) e short reads puts = absurd (puts s)
-complete old new status (Some commands.Replay) (Starved s a) e short reads puts = inr s
-complete old new status (Some commands.Replay) (Overlong s a) e short reads puts = absurd (not_short old.script a.later a.bytes short a.taken a.full)
+  pub at_realm_fault : (outcome : Outcome) (bytes : List ℕ) → new.script ≡ mid.script → old.realm.left ≡ before_known bytes mid.realm.left → Rose old.realm.faults mid.realm.faults
+      → LineMeans read_line 4 mid new (number_of outcome) → CommandMeans command old new (number_of outcome)
+  at_realm_fault outcome bytes u taken rose l = Faulty (u ∙ script) (record {
+    rose = subst (λ (x : SourceState R). Rose old.realm.faults x.faults) (sym realm) rose;
+    bytes = bytes;
+    taken = taken ∙ ap (before_known bytes) left;
+  }) (line old mid new script unwritten _ 4 (number_of outcome) l)

@@ -12,10 +12,10 @@ use Rattle.login_desk.specs.Outside.{OutsideState}
 use Rattle.login_desk.specs.Play.{play, play_text}
 
 -- these lines were taken and answered
-pub record Going {S : Type 0} (base : List Fact) (old now : OutsideState S) (held : Held) (hall : HallState) : Type 0 where
+pub record Going {S R : Type 0} (base : List Fact) (old now : OutsideState S R) (held : Held) (hall : HallState) : Type 0 where
   pub done : List (List ℕ)
   pub plain : AllByRecursion IsLine done
-  pub came : old.script ≡ before_known (unlines done) (rest held now.script)
+  pub came : old.script.left ≡ before_known (unlines done) (rest held now.script.left)
   pub count : held.taken ≡ length (unlines done)
   pub text : now.written ≡ after_known old.written (play_text base done)
   pub over : hall.base ≡ base
@@ -24,6 +24,7 @@ pub record Going {S : Type 0} (base : List Fact) (old now : OutsideState S) (hel
   pub tabs : last_tab_serial (facts_of hall) ≤ last_tab_serial base + 4 * length done
   pub stored : last_stored_serial (facts_of hall) ≤ last_stored_serial base + 4 * length done
   pub version : last_version (facts_of hall) ≤ last_version base + length done
-  pub reads : old.read_faults ≤ now.read_faults
+  pub unread : now.realm ≡ old.realm
+  pub reads : old.script.faults ≤ now.script.faults
   pub puts : old.write_faults ≤ now.write_faults
-  pub ends : now.ends ≡ old.ends
+  pub ends : now.script.ends ≡ old.script.ends

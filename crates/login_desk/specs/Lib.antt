@@ -1,9 +1,13 @@
+pub mod Causes
+pub mod Check
 pub mod Command
 pub mod Going
 pub mod Intake
 pub mod Outcome
 pub mod Outside
 pub mod Play
+pub mod RealmGiven
 pub mod Run
 pub mod Statuses
 pub mod Turn
+pub mod Whole

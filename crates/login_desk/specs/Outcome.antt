@@ -22,53 +22,53 @@ script_line = codes "error 9 script" ++ 10 ∷ []
 -- ---- outcomes
 
 -- the whole script was taken, of fewer than 2^32 bytes, and the text of the play of its lines was written
-pub record IsAnswered {S : Type 0} (base : List Fact) (old new : OutsideState S) : Type 0 where
+pub record IsAnswered {S R : Type 0} (base : List Fact) (old new : OutsideState S R) : Type 0 where
   pub bytes : List ℕ
-  pub taken : old.script ≡ before_known bytes new.script
-  pub end : IsAtEnd new.script
+  pub taken : old.script.left ≡ before_known bytes new.script.left
+  pub end : IsAtEnd new.script.left
   pub short : length bytes < 2 ^ 32
   pub text : new.written ≡ after_known old.written (play_text base (lines bytes))
 
 -- fewer than 2^32 bytes were taken; the text of the play of the whole lines in them was written, and then the last line
-pub record IsStopped {S : Type 0} (base : List Fact) (old new : OutsideState S) (last : List ℕ) : Type 0 where
+pub record IsStopped {S R : Type 0} (base : List Fact) (old new : OutsideState S R) (last : List ℕ) : Type 0 where
   pub bytes : List ℕ
-  pub taken : old.script ≡ before_known bytes new.script
+  pub taken : old.script.left ≡ before_known bytes new.script.left
   pub short : length bytes < 2 ^ 32
   pub text : new.written ≡ after_known old.written (play_text base (whole_lines bytes) ++ last)
 
 -- 2^32 bytes were taken; the text of the play of the whole lines in them was written, and then the last line
-pub record IsOverlong {S : Type 0} (base : List Fact) (old new : OutsideState S) (last : List ℕ) : Type 0 where
+pub record IsOverlong {S R : Type 0} (base : List Fact) (old new : OutsideState S R) (last : List ℕ) : Type 0 where
   pub bytes : List ℕ
   pub later : Option (List ℕ)
-  pub taken : old.script ≡ before_known bytes later
+  pub taken : old.script.left ≡ before_known bytes later
   pub full : length bytes ≡ 2 ^ 32
   pub text : new.written ≡ after_known old.written (play_text base (whole_lines bytes) ++ last)
 
 -- the text of the play of the first whole lines was written
-pub record IsStarved {S : Type 0} (base : List Fact) (old new : OutsideState S) : Type 0 where
+pub record IsStarved {S R : Type 0} (base : List Fact) (old new : OutsideState S R) : Type 0 where
   pub bytes : List ℕ
   pub later : Option (List ℕ)
-  pub taken : old.script ≡ before_known bytes later
+  pub taken : old.script.left ≡ before_known bytes later
   pub text : new.written ≡ after_known old.written (play_text base (whole_lines bytes))
 
 -- what is due to be written in a replay that ends in a write that fails
-pub data IsReplyDue {S : Type 0} (base : List Fact) (old new : OutsideState S) (due : List ℕ) : Type 0 where
+pub data IsReplyDue {S R : Type 0} (base : List Fact) (old new : OutsideState S R) (due : List ℕ) : Type 0 where
   -- the text of the play of the first whole lines
-  Whole : (bytes : List ℕ) (later : Option (List ℕ)) → old.script ≡ before_known bytes later → due ≡ play_text base (whole_lines bytes) → IsReplyDue base old new due
+  Whole : (bytes : List ℕ) (later : Option (List ℕ)) → old.script.left ≡ before_known bytes later → due ≡ play_text base (whole_lines bytes) → IsReplyDue base old new due
   -- that of all lines, where the script is at its end
-  Ended : (bytes : List ℕ) → old.script ≡ before_known bytes new.script → IsAtEnd new.script → due ≡ play_text base (lines bytes) → IsReplyDue base old new due
+  Ended : (bytes : List ℕ) → old.script.left ≡ before_known bytes new.script.left → IsAtEnd new.script.left → due ≡ play_text base (lines bytes) → IsReplyDue base old new due
   -- that of the whole lines before a fault, and the line on the fault
-  Fault : Rose old.read_faults new.read_faults → (bytes : List ℕ) → old.script ≡ before_known bytes new.script → due ≡ play_text base (whole_lines bytes) ++ read_line → IsReplyDue base old new due
+  Fault : Rose old.script.faults new.script.faults → (bytes : List ℕ) → old.script.left ≡ before_known bytes new.script.left → due ≡ play_text base (whole_lines bytes) ++ read_line → IsReplyDue base old new due
   -- that of the whole lines in 2^32 bytes, and the line on their number
-  Limit : (bytes : List ℕ) (later : Option (List ℕ)) → old.script ≡ before_known bytes later → length bytes ≡ 2 ^ 32 → due ≡ play_text base (whole_lines bytes) ++ script_line → IsReplyDue base old new due
+  Limit : (bytes : List ℕ) (later : Option (List ℕ)) → old.script.left ≡ before_known bytes later → length bytes ≡ 2 ^ 32 → due ≡ play_text base (whole_lines bytes) ++ script_line → IsReplyDue base old new due
 
 -- a front of what was due was written
-pub record IsCutOff {S : Type 0} (base : List Fact) (old new : OutsideState S) : Type 0 where
+pub record IsCutOff {S R : Type 0} (base : List Fact) (old new : OutsideState S R) : Type 0 where
   pub due : List ℕ
   pub is_due : IsReplyDue base old new due
   pub front : WritesFront old.written new.written due
 
-abbrev pub PlayEnds : {S : Type 0} → List Fact → OutsideState S → OutsideState S → End → Type 0
+abbrev pub PlayEnds : {S R : Type 0} → List Fact → OutsideState S R → OutsideState S R → End → Type 0
 PlayEnds base old new ends.Done = IsAnswered base old new
 PlayEnds base old new ends.ReadFailed = IsStopped base old new []
 PlayEnds base old new ends.PutFailed = IsCutOff base old new

@@ -1,21 +1,28 @@
 -- The play of a script: its journal, and its text.
-use Rattle.std.specs.Prelude.{ℕ, List, [], ◌∷◌, ◌++◌, fold, if◌then◌else◌}
+use Rattle.std.specs.Prelude.{ℕ, List, [], ◌∷◌, ◌++◌, fold, Option, Some, if◌then◌else◌}
 use Rattle.facts.specs.declared.entry.Entry.{Entry}
 use Rattle.facts.specs.declared.fact.Fact.{Fact}
 use Rattle.facts.specs.declared.fact.Fact.TheVariants as events
-use Rattle.realm_data.specs.RealmBuiltin.{builtin_realm}
+use Rattle.realm_data.specs.declared.realm_parts.RealmParts.{RealmParts}
 use Rattle.asks.specs.Solved.{SolvedAsk}
 use Rattle.reply_words.specs.Words.{words}
 use Rattle.login_base.specs.declared.draws.Draws.{Draws}
 use Rattle.login_hall.specs.Found.{solved_of}
 use Rattle.login_hall.specs.Growth.{chronicle_of, last_moment}
 use Rattle.login_hall.specs.Legal.{entry_due}
+use Rattle.login_hall.specs.Start.{start_facts}
 use Rattle.script_lines.specs.declared.lines.LineAsk.{LineAsk}
 use Rattle.script_lines.specs.Lines.{line_ask, is_skipped}
+use Rattle.login_desk.specs.RealmGiven.{or_builtin}
 
--- the base without a realm of its own: one mark of zeros, and the built-in realm, which the start puts as version 1
-abbrev pub first_base : List Fact
-first_base = events.Mark 0 0 0 0 ∷ events.RealmPut 1 builtin_realm ∷ []
+-- a mark of zeros
+abbrev pub first_mark : List Fact
+first_mark = events.Mark 0 0 0 0 ∷ []
+
+-- the base of a play: a mark of zeros, and what a start with the given realm, or the built-in one, adds: the realm as
+-- version 1, and then its users
+unfoldable pub base_of : Option RealmParts → List Fact
+base_of given = first_mark ++ start_facts first_mark (Some (or_builtin given))
 
 -- the entry that a line is due; the caller of a script is 0
 abbrev pub entry_of_line : List Fact → List Entry → List ℕ → Entry

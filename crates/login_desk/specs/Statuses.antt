@@ -6,6 +6,7 @@ use Rattle.login_desk.specs.declared.status.Outcome.TheVariants as outcomes
 abbrev pub number_of : Outcome → ℕ
 number_of outcomes.Done = 0
 number_of outcomes.Usage = 2
+number_of outcomes.NoRealm = 3
 number_of outcomes.ReadFailed = 4
 number_of outcomes.PutFailed = 5
 number_of outcomes.Memory = 7

@@ -1,7 +1,36 @@
 ghost use Rattle.std.specs.Prelude.{None};
 
 use login_base::{Put, Read, Sink, Source};
+use std::fs::File;
 use std::io;
+
+/// What a source is read from.
+#[derive(Drop)]
+pub enum Opened<R> {
+    /// Nothing is there to be read.
+    Nothing,
+    Reader(R),
+    /// It couldn't be opened: each read fails.
+    Unopened,
+}
+
+impl<R: io::Read> io::Read for Opened<R> {
+    fn read(&mut self, buffer: &mut [u8]) -> io::Result<usize> {
+        match self {
+            Opened::Nothing => Ok(0),
+            Opened::Reader(reader) => reader.read(buffer),
+            Opened::Unopened => Err(io::Error::from(io::ErrorKind::NotFound)),
+        }
+    }
+}
+
+/// The file of this name.
+pub fn open_file(rt: &HostRuntime, path: &str) -> Opened<File> {
+    match File::open(rt, path) {
+        Ok(file) => Opened::Reader(file),
+        Err(_) => Opened::Unopened,
+    }
+}
 
 /// A reader as a source. It tells no content.
 #[derive(Drop)]
@@ -115,6 +144,12 @@ mod tests {
         assert!(rt; output.put(b"ab") == Put::All);
         assert!(rt; output.put(b"c") == Put::All);
         assert_eq!(rt; output.writer.as_slice(), b"abc".as_slice());
+        let mut unopened = Input::new(Opened::<Broken>::Unopened);
+        assert!(rt; unopened.read(&mut buffer) == Read::Failed);
+        assert_eq!(rt; unopened.faults, 1);
+        let mut nothing = Input::new(Opened::<Broken>::Nothing);
+        assert!(rt; nothing.read(&mut buffer) == Read::Got(0));
+        assert_eq!(rt; nothing.ends, 1);
         let mut broken = Output::new(Broken);
         assert!(rt; broken.put(b"ab") == Put::Failed);
         assert_eq!(rt; broken.faults, 1);

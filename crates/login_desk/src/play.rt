@@ -1,15 +1,17 @@
-ghost use Rattle.std.specs.Prelude.{◌≡◌, ◌<◌, ◌≤◌, ◌+◌, ◌^◌, [], true, IfOk};
+ghost use Rattle.std.specs.Prelude.{◌≡◌, ◌<◌, ◌≤◌, ◌+◌, ◌^◌, [], true, IfOk, OnOk};
 ghost use Rattle.facts.specs.Realms.{has_realm};
 ghost use Rattle.hall_answers.specs.HasSerials.{HasSerials};
 ghost use Rattle.login_base.specs.Outside.{Rose, counted};
+ghost use Rattle.login_hall.specs.Start.{IsPlayable};
 ghost use Rattle.login_desk.specs.Outcome.{PlayEnds, end_of};
-ghost use Rattle.login_desk.specs.Play.{first_base};
+ghost use Rattle.login_desk.specs.Play.{base_of};
 
 use crate::intake::{Intake, Next, SCRIPT_LIMIT};
 use crate::outside::Outside;
 use crate::turn::{Turn, answer_line};
 use login_base::{Memory, Sink, Source, Steps};
 use login_hall::Hall;
+use realm_data::Realm;
 use std::alloc::Global;
 use std::sync::ledger::Ledger;
 
@@ -38,11 +40,11 @@ fn end_of(turn: Turn) -> End
 }
 
 /// Answers the lines of a script, one after the other.
-fn play_lines<L: Ledger, S: Source, W: Sink>(
+fn play_lines<L: Ledger, S: Source, R: Source, W: Sink>(
     alloc: Global,
     hall: &mut Hall,
     intake: &mut Intake,
-    outside: &mut Outside<S, W>,
+    outside: &mut Outside<S, R, W>,
     steps: &mut Steps<L>,
 ) -> End
     requires journal { hall.old.journal ≡ [] }
@@ -51,10 +53,11 @@ fn play_lines<L: Ledger, S: Source, W: Sink>(
     requires pending { intake.old.pending ≡ [] }
     requires taken { intake.old.taken ≡ 0 }
     ensures play { PlayEnds hall.old.base outside.old outside.new result }
-    ensures end { result ≡ End.Done → outside.new.ends ≡ counted outside.old.ends }
-    ensures read_cause { result ≡ End.ReadFailed → Rose outside.old.read_faults outside.new.read_faults }
+    ensures end { result ≡ End.Done → outside.new.script.ends ≡ counted outside.old.script.ends }
+    ensures read_cause { result ≡ End.ReadFailed → Rose outside.old.script.faults outside.new.script.faults }
     ensures put_cause { result ≡ End.PutFailed → Rose outside.old.write_faults outside.new.write_faults }
     ensures puts { outside.old.write_faults ≤ outside.new.write_faults }
+    ensures realm { outside.new.realm ≡ outside.old.realm }
 {
     for _ in 0..SCRIPT_LIMIT + 1 {
         match outside.next_line(alloc, intake) {
@@ -75,30 +78,36 @@ fn play_lines<L: Ledger, S: Source, W: Sink>(
     End::TooLong
 }
 
-/// A new hall, which has started with the built-in realm.
-fn start_hall(alloc: Global) -> Result<Hall, Memory>
-    ensures base { IfOk result (λ hall. hall.base ≡ first_base) }
+/// A new hall, which has started with the given realm, or with the built-in one.
+fn start_hall(alloc: Global, given: Option<Realm>) -> Result<Hall, Memory>
+    requires playable { IsPlayable given }
+    ensures base { IfOk result (λ hall. hall.base ≡ base_of given) }
     ensures journal { IfOk result (λ hall. hall.journal ≡ []) }
+    ensures realm { OnOk result (has_realm (base_of given) ≡ true) }
+    ensures serials { OnOk result (HasSerials (base_of given) (2 ^ 62)) }
 {
     let mut hall = Hall::make(alloc)?;
-    let start = hall.start(None)?;
+    let start = hall.start(given)?;
     hall.started(start);
     Ok(hall)
 }
 
-/// Plays a script over a new hall.
-pub fn play_script<L: Ledger, S: Source, W: Sink>(
+/// Plays a script over a new hall with the given realm, or with the built-in one.
+pub fn play_script<L: Ledger, S: Source, R: Source, W: Sink>(
     alloc: Global,
-    outside: &mut Outside<S, W>,
+    given: Option<Realm>,
+    outside: &mut Outside<S, R, W>,
     steps: &mut Steps<L>,
 ) -> End
-    ensures play { PlayEnds first_base outside.old outside.new result }
-    ensures end { result ≡ End.Done → outside.new.ends ≡ counted outside.old.ends }
-    ensures read_cause { result ≡ End.ReadFailed → Rose outside.old.read_faults outside.new.read_faults }
+    requires playable { IsPlayable given }
+    ensures play { PlayEnds (base_of given) outside.old outside.new result }
+    ensures end { result ≡ End.Done → outside.new.script.ends ≡ counted outside.old.script.ends }
+    ensures read_cause { result ≡ End.ReadFailed → Rose outside.old.script.faults outside.new.script.faults }
     ensures put_cause { result ≡ End.PutFailed → Rose outside.old.write_faults outside.new.write_faults }
     ensures puts { outside.old.write_faults ≤ outside.new.write_faults }
+    ensures realm { outside.new.realm ≡ outside.old.realm }
 {
-    let Ok(mut hall) = start_hall(alloc) else {
+    let Ok(mut hall) = start_hall(alloc, given) else {
         return End::Memory;
     };
     let Ok(mut intake) = Intake::make(alloc, BUFFER) else {

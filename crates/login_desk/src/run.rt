@@ -1,22 +1,33 @@
-ghost use Rattle.std.specs.Prelude.{◌≡◌, ◌≢◌, ◌⊎◌, IsTrue, None, Some};
+ghost use Rattle.std.specs.Prelude.{◌≡◌, ◌⊎◌, ◌≢◌, IsTrue, IfOk, None, Some, IsSomeAnd};
 ghost use Rattle.login_base.specs.Outside.{Rose, counted, after_known};
+ghost use Rattle.login_hall.specs.Start.{IsPlayable};
+ghost use Rattle.login_desk.specs.Causes.{IsReplayed, IsChecked, IsRefused, IsUnreadable, IsPutFailed, IsOutOfMemory, IsTooLong, HasAll, HasNoRealm};
+ghost use Rattle.login_desk.specs.Check.{check_line};
 ghost use Rattle.login_desk.specs.Command.{command_of};
-ghost use Rattle.login_desk.specs.Outcome.{IsAnswered, IsStopped, IsOverlong, IsStarved, read_line, script_line};
 ghost use Rattle.login_desk.specs.Outside.{IsUnread, IsFaultless};
-ghost use Rattle.login_desk.specs.Play.{first_base};
-ghost use Rattle.login_desk.specs.Run.{RunMeans, ReplayMeans, LineEnds, IsPutFailed, IsShort, is_status, usage_line};
+ghost use Rattle.login_desk.specs.Play.{base_of};
+ghost use Rattle.login_desk.specs.RealmGiven.{or_builtin, refusal_line};
+ghost use Rattle.login_desk.specs.Run.{RunMeans, CommandMeans, BytesMean, WorkMeans, ReplayMeans, CheckMeans, LineMeans, LineEnds, is_status, usage_line};
 ghost use Rattle.login_desk.specs.Statuses.{number_of};
 
+use crate::check::check_line;
 use crate::command::{Command, command_of};
 use crate::outside::Outside;
 use crate::play::{End, play_script};
+use crate::realm_given::{Given, NoRealm, realm_for, refusal_line, too_long};
 use crate::status::{Outcome, Status};
-use login_base::{Argv, Put, Sink, Source, Steps};
+use crate::whole::Whole;
+use login_base::{Argv, Memory, Put, Sink, Source, Steps, discard};
+use realm_data::Realm;
 use std::alloc::Global;
 use std::sync::ledger::Ledger;
 
 /// Writes the last line.
-fn close<S: Source, W: Sink>(outside: &mut Outside<S, W>, line: &[u8], outcome: Outcome) -> Outcome
+fn close<S: Source, R: Source, W: Sink>(
+    outside: &mut Outside<S, R, W>,
+    line: &[u8],
+    outcome: Outcome,
+) -> Outcome
     requires other { outcome ≢ Outcome.PutFailed }
     ensures line { LineEnds outside.old.written outside.new.written line.now outcome result }
     ensures cause { result ≡ Outcome.PutFailed → Rose outside.old.write_faults outside.new.write_faults }
@@ -29,17 +40,18 @@ fn close<S: Source, W: Sink>(outside: &mut Outside<S, W>, line: &[u8], outcome: 
 }
 
 /// Answers the script.
-fn replay<L: Ledger, S: Source, W: Sink>(
+fn replay<L: Ledger, S: Source, R: Source, W: Sink>(
     alloc: Global,
-    outside: &mut Outside<S, W>,
+    given: Option<Realm>,
+    outside: &mut Outside<S, R, W>,
     steps: &mut Steps<L>,
 ) -> Outcome
-    ensures means { ReplayMeans first_base outside.old outside.new (number_of result) }
-    ensures end { result ≡ Outcome.Done → outside.new.ends ≡ counted outside.old.ends }
-    ensures read_cause { result ≡ Outcome.ReadFailed → Rose outside.old.read_faults outside.new.read_faults }
-    ensures put_cause { result ≡ Outcome.PutFailed → Rose outside.old.write_faults outside.new.write_faults }
+    requires playable { IsPlayable given }
+    ensures means { ReplayMeans (base_of given) outside.old outside.new (number_of result) }
+    ensures end { result ≡ Outcome.Done → outside.new.script.ends ≡ counted outside.old.script.ends }
+    ensures realm { outside.new.realm ≡ outside.old.realm }
 {
-    match play_script(alloc, outside, steps) {
+    match play_script(alloc, given, outside, steps) {
         End::Done => Outcome::Done,
         End::ReadFailed => close(outside, b"error 4 read\n", Outcome::ReadFailed),
         End::PutFailed => Outcome::PutFailed,
@@ -48,38 +60,147 @@ fn replay<L: Ledger, S: Source, W: Sink>(
     }
 }
 
+/// Says how large the given realm is, or the built-in one.
+fn check<S: Source, R: Source, W: Sink>(
+    alloc: Global,
+    given: Option<Realm>,
+    outside: &mut Outside<S, R, W>,
+) -> Outcome
+    ensures means { CheckMeans (or_builtin given) outside.old outside.new (number_of result) }
+    ensures unread { IsUnread outside.old outside.new }
+{
+    let Ok(realm) = or_builtin(alloc, given) else {
+        return Outcome::Memory;
+    };
+    match check_line(alloc, &realm) {
+        Ok(line) => close(outside, line.as_slice(), Outcome::Done),
+        Err(Memory) => Outcome::Memory,
+    }
+}
+
+fn or_builtin(alloc: Global, given: Option<Realm>) -> Result<Realm, Memory>
+    ensures { IfOk result (λ realm. realm ≡ or_builtin given) }
+{
+    match given {
+        Some(realm) => Ok(realm),
+        None => Realm::builtin(alloc),
+    }
+}
+
+/// Does what a command does with a realm.
+fn work<L: Ledger, S: Source, R: Source, W: Sink>(
+    alloc: Global,
+    command: Command,
+    given: Option<Realm>,
+    outside: &mut Outside<S, R, W>,
+    steps: &mut Steps<L>,
+) -> Outcome
+    requires playable { command ≡ Command.Replay → IsPlayable given }
+    ensures means { WorkMeans command given outside.old outside.new (number_of result) }
+    ensures end { result ≡ Outcome.Done → command ≡ Command.Replay →
+        outside.new.script.ends ≡ counted outside.old.script.ends }
+    ensures realm { outside.new.realm ≡ outside.old.realm }
+{
+    match command {
+        Command::Replay => replay(alloc, given, outside, steps),
+        Command::Check => check(alloc, given, outside),
+    }
+}
+
+/// Tells why the command can't go on.
+fn refuse<S: Source, R: Source, W: Sink>(
+    alloc: Global,
+    refusal: NoRealm,
+    outside: &mut Outside<S, R, W>,
+) -> Outcome
+    ensures means { LineMeans (refusal_line refusal) 3 outside.old outside.new (number_of result) ⊎
+        ((result ≡ Outcome.Memory) × (outside.new.written ≡ outside.old.written)) }
+    ensures unread { IsUnread outside.old outside.new }
+{
+    let line = refusal_line(alloc, &refusal);
+    discard(refusal);
+    match line {
+        Ok(line) => close(outside, line.as_slice(), Outcome::NoRealm),
+        Err(Memory) => Outcome::Memory,
+    }
+}
+
+/// Goes on with the bytes of the realm source.
+fn with_bytes<L: Ledger, S: Source, R: Source, W: Sink>(
+    alloc: Global,
+    command: Command,
+    bytes: &[u8],
+    outside: &mut Outside<S, R, W>,
+    steps: &mut Steps<L>,
+) -> Outcome
+    ensures means { BytesMean command bytes.now outside.old outside.new (number_of result) }
+    ensures script_end { result ≡ Outcome.Done → command ≡ Command.Replay →
+        outside.new.script.ends ≡ counted outside.old.script.ends }
+    ensures realm { outside.new.realm ≡ outside.old.realm }
+{
+    match realm_for(alloc, command, bytes) {
+        Given::Realm(given) => work(alloc, command, given, outside, steps),
+        Given::Refused(refusal) => refuse(alloc, refusal, outside),
+        Given::Memory => Outcome::Memory,
+    }
+}
+
+/// Does what a command says: it reads the realm source first.
+fn obey<L: Ledger, S: Source, R: Source, W: Sink>(
+    alloc: Global,
+    command: Command,
+    outside: &mut Outside<S, R, W>,
+    steps: &mut Steps<L>,
+) -> Outcome
+    ensures means { CommandMeans command outside.old outside.new (number_of result) }
+    ensures script_end { result ≡ Outcome.Done → command ≡ Command.Replay →
+        outside.new.script.ends ≡ counted outside.old.script.ends }
+    ensures realm_end { result ≡ Outcome.Done → outside.new.realm.ends ≡ counted outside.old.realm.ends }
+{
+    match outside.take_realm(alloc) {
+        Whole::Bytes(bytes) => with_bytes(alloc, command, bytes.as_slice(), outside, steps),
+        Whole::TooLong => refuse(alloc, too_long(alloc), outside),
+        Whole::Failed => close(outside, b"error 4 read\n", Outcome::ReadFailed),
+        Whole::Memory => Outcome::Memory,
+    }
+}
+
 /// Does what the command says, if any.
-fn outcome_of<L: Ledger, S: Source, W: Sink>(
+fn outcome_of<L: Ledger, S: Source, R: Source, W: Sink>(
     alloc: Global,
     command: Option<Command>,
-    outside: &mut Outside<S, W>,
+    outside: &mut Outside<S, R, W>,
     steps: &mut Steps<L>,
 ) -> Outcome
     ensures means { RunMeans command outside.old outside.new (number_of result) }
-    ensures end { result ≡ Outcome.Done → outside.new.ends ≡ counted outside.old.ends }
-    ensures read_cause { result ≡ Outcome.ReadFailed → Rose outside.old.read_faults outside.new.read_faults }
-    ensures put_cause { result ≡ Outcome.PutFailed → Rose outside.old.write_faults outside.new.write_faults }
-    ensures unread { command ≡ None → IsUnread outside.old outside.new }
+    ensures script_end { result ≡ Outcome.Done → command ≡ Some Command.Replay →
+        outside.new.script.ends ≡ counted outside.old.script.ends }
+    ensures realm_end { result ≡ Outcome.Done → outside.new.realm.ends ≡ counted outside.old.realm.ends }
 {
     match command {
-        Some(Command::Replay) => replay(alloc, outside, steps),
+        Some(command) => obey(alloc, command, outside, steps),
         None => close(outside, b"error 2 usage\n", Outcome::Usage),
     }
 }
 
 /// Does all that the program does, and answers the status that it ends with.
-pub fn run<L: Ledger, S: Source, W: Sink>(
+pub fn run<L: Ledger, S: Source, R: Source, W: Sink>(
     alloc: Global,
     arguments: &Argv,
-    outside: &mut Outside<S, W>,
+    outside: &mut Outside<S, R, W>,
     steps: &mut Steps<L>,
 ) -> Status
     ensures does { RunMeans (command_of arguments.now) outside.old outside.new result.0 }
     ensures known { IsTrue (is_status result.0) }
 
-    // 0: the script was read to its end, and every line is answered.
-    ensures done { result.0 ≡ 0 → IsAnswered first_base outside.old outside.new }
-    ensures end { result.0 ≡ 0 → outside.new.ends ≡ counted outside.old.ends }
+    // 0: the realm source was read to its end, and the line of a check is written; or in a replay the
+    // script was read to its end too, and every line is answered.
+    ensures replayed { result.0 ≡ 0 → command_of arguments.now ≡ Some Command.Replay → IsReplayed outside.old outside.new }
+    ensures checked { result.0 ≡ 0 → command_of arguments.now ≡ Some Command.Check → IsChecked outside.old outside.new }
+    ensures realm_end { result.0 ≡ 0 → outside.new.realm.ends ≡ counted outside.old.realm.ends }
+    ensures script_end { result.0 ≡ 0 → command_of arguments.now ≡ Some Command.Replay →
+        outside.new.script.ends ≡ counted outside.old.script.ends }
+    ensures scriptless { command_of arguments.now ≡ Some Command.Check → outside.new.script ≡ outside.old.script }
 
     // 2: exactly where the arguments are outside the grammar and the line on it could be written.
     ensures usage { result.0 ≡ 2 → outside.new.written ≡ after_known outside.old.written usage_line }
@@ -87,22 +208,28 @@ pub fn run<L: Ledger, S: Source, W: Sink>(
     ensures outside { command_of arguments.now ≡ None → (result.0 ≡ 2) ⊎ (result.0 ≡ 5) }
     ensures unread { command_of arguments.now ≡ None → IsUnread outside.old outside.new }
 
-    // 4: only where the source's count of faults rose; the whole lines before are answered.
-    ensures read { result.0 ≡ 4 → IsStopped first_base outside.old outside.new read_line }
-    ensures read_cause { result.0 ≡ 4 → Rose outside.old.read_faults outside.new.read_faults }
+    // 3: exactly where the realm source has bytes with which the command can't go on.
+    ensures realm { result.0 ≡ 3 → IsSomeAnd (command_of arguments.now) (λ c. IsRefused c outside.old outside.new) }
+    ensures refused { IsSomeAnd (command_of arguments.now) (λ c. HasNoRealm c outside.old.realm.left) →
+        IsFaultless outside.old outside.new → (result.0 ≡ 3) ⊎ (result.0 ≡ 7) }
+
+    // 4: only where the count of faults of the source that was read rose; the whole lines before are answered.
+    ensures read { result.0 ≡ 4 → IsSomeAnd (command_of arguments.now) (λ c. IsUnreadable c outside.old outside.new) }
+    ensures read_cause { result.0 ≡ 4 → Rose outside.old.realm.faults outside.new.realm.faults ⊎
+        Rose outside.old.script.faults outside.new.script.faults }
 
     // 5: only where the sink's count of faults rose; a front of what was due is written.
-    ensures put { result.0 ≡ 5 → IsPutFailed (command_of arguments.now) outside.old outside.new }
+    ensures put { result.0 ≡ 5 → IsPutFailed outside.old outside.new (command_of arguments.now) }
     ensures put_cause { result.0 ≡ 5 → Rose outside.old.write_faults outside.new.write_faults }
 
-    // 7: want of memory; the reply lines to the first whole lines are written.
-    ensures memory { result.0 ≡ 7 → IsStarved first_base outside.old outside.new }
+    // 7: want of memory; nothing is written, or in a replay the reply lines to the first whole lines.
+    ensures memory { result.0 ≡ 7 → IsSomeAnd (command_of arguments.now) (λ c. IsOutOfMemory c outside.old outside.new) }
 
-    // 9: exactly 2^32 bytes were taken; the whole lines in them are answered.
-    ensures long { result.0 ≡ 9 → IsOverlong first_base outside.old outside.new script_line }
+    // 9: exactly 2^32 bytes of script were taken; the whole lines in them are answered.
+    ensures long { result.0 ≡ 9 → IsSomeAnd (command_of arguments.now) (λ c. IsTooLong c outside.old outside.new) }
 
-    // Where no count rose, a short script is answered whole, but for want of memory.
-    ensures complete { command_of arguments.now ≡ Some Command.Replay → IsShort outside.old.script →
+    // Where no count rose, a realm is checked, and a short script is answered whole, but for want of memory.
+    ensures complete { IsSomeAnd (command_of arguments.now) (λ c. HasAll outside.old c) →
         IsFaultless outside.old outside.new → (result.0 ≡ 0) ⊎ (result.0 ≡ 7) }
 {
     outcome_of(alloc, command_of(arguments), outside, steps).status()

@@ -16,10 +16,12 @@ struct Replayed {
     text: Vec<u8>,
 }
 
-/// A script, and the numbers of the reads and of the writes that fail.
+/// A script and a realm, and the numbers of the reads of each and of the writes that fail.
 #[derive(Clone, Copy)]
 struct Case<'a> {
     script: &'a [u8],
+    realm: &'a [u8],
+    failing_realm_reads: &'a [u64],
     failing_reads: &'a [u64],
     failing_puts: &'a [u64],
 }
@@ -43,8 +45,11 @@ fn run_counted<L: Ledger>(
     let bytes = Vec::from_slice(alloc, case.script)?;
     let failing_reads = Vec::from_slice(alloc, case.failing_reads)?;
     let failing_puts = Vec::from_slice(alloc, case.failing_puts)?;
+    let realm = Vec::from_slice(alloc, case.realm)?;
+    let failing_realm_reads = Vec::from_slice(alloc, case.failing_realm_reads)?;
     let mut outside = Outside {
         script: MemSource::make(bytes, failing_reads),
+        realm: MemSource::make(realm, failing_realm_reads),
         sink: MemSink::make(alloc, failing_puts),
     };
     let Status(status) = run(alloc, &argv, &mut outside, &mut steps);
@@ -71,6 +76,8 @@ fn arguments_outside_the_grammar_read_nothing(rt: HostRuntime) -> Result<(), Fai
     for arguments in OUTSIDE {
         let case = Case {
             script: b"x\n",
+            realm: b"=",
+            failing_realm_reads: &[1],
             failing_reads: &[1],
             failing_puts: &[],
         };
@@ -83,6 +90,8 @@ fn arguments_outside_the_grammar_read_nothing(rt: HostRuntime) -> Result<(), Fai
         );
         let case = Case {
             script: b"x\n",
+            realm: b"=",
+            failing_realm_reads: &[1],
             failing_reads: &[],
             failing_puts: &[1],
         };
@@ -132,6 +141,8 @@ fn faults_end_the_run_where_they_are_met(rt: HostRuntime) -> Result<(), Fail> {
     for (reads, puts, status, text) in FAULTS {
         let case = Case {
             script: THREE,
+            realm: b"",
+            failing_realm_reads: &[],
             failing_reads: reads,
             failing_puts: puts,
         };

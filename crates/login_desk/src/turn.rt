@@ -90,11 +90,11 @@ pub(crate) fn enter_line<L: Ledger>(
 }
 
 /// Answers one line.
-pub fn answer_line<L: Ledger, S: Source, W: Sink>(
+pub fn answer_line<L: Ledger, S: Source, R: Source, W: Sink>(
     alloc: Global,
     hall: &mut Hall,
     line: &[u8],
-    outside: &mut Outside<S, W>,
+    outside: &mut Outside<S, R, W>,
     steps: &mut Steps<L>,
 ) -> Turn
     requires realm { has_realm (facts_of hall.old) ≡ true }

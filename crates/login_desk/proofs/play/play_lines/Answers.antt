@@ -54,7 +54,7 @@ loop-preserved g c =
     record {
       going =
           goes_on _ _ _ _ _ c.loop.invariant.going c.in-Line.line.items c.next_line.new.self _ took.unwritten.written turn.unread c.next_line.new.intake took.line c.answer_line.new.hall (rw c.as_slice.ensures.value at turn.turn.0)
-          (rw c.as_slice.ensures.value at turn.turn.1) took.faults (omega (arith, took.unwritten.faults, turn.faults)) took.ends;
+          (rw c.as_slice.ensures.value at turn.turn.1) took.faults (omega (arith, took.unwritten.faults, turn.faults)) took.ends took.realm;
       count = omega (arith, took.line.count, c.loop.invariant.count);
       limit = took.limit;
     }

@@ -1,6 +1,8 @@
-use Rattle.std.proofs.Common.{rules}
-use Rattle.login_desk.proofs.RunLemmas.{at_usage}
+use Rattle.login_desk.proofs.RunLemmas.{line_means}
 use Rattle.login_desk.proofs.run.outcome_of.Goals as goal
 
+pub returns-in-Some-clause-means : goal.returns-in-Some-clause-means
+returns-in-Some-clause-means g c = rw c.in-Some.is c.obey.ensures.means
+
 pub returns-in-None-clause-means : goal.returns-in-None-clause-means
-returns-in-None-clause-means g c = at_usage c.args.outside.now c.close.new.outside c.close.result c.close.ensures.unread c.args.command (search rules) c.close.ensures.line
+returns-in-None-clause-means g c = rw c.in-None.is (c.close.ensures.unread, line_means _ _ _ _ _ c.close.ensures.line c.close.ensures.cause)

@@ -1,0 +1,11 @@
+use Rattle.std.proofs.Common.{◌≡◌, ◌≤◌, length, ap, arith}
+use Rattle.flow_tree.specs.Places.{places}
+use Rattle.login_desk.specs.Check.{execution_count}
+use Rattle.login_desk.proofs.SizeLemmas.{few_executions}
+use Rattle.login_desk.proofs.flow_size.execution_count.Goals as goal
+
+pub returns : goal.returns
+returns c =
+    let few = few_executions c.args.flow.now c.execs.ensures.sound in
+    let same = ap execution_count c.execs.ensures.execs in
+    record { value = omega (arith, few, same, c.count_among.ensures 1) }
