@@ -8,8 +8,6 @@ mod check;
 mod command;
 mod edge;
 mod flow_size;
-#[cfg(test)]
-mod flow_tests;
 mod intake;
 mod outside;
 mod play;

@@ -21,4 +21,3 @@ mod user_add;
 mod verbs;
 
 pub use lines::{LINE_LIMIT, LineAsk, is_skipped, line_ask};
-pub use numbers::number;
