@@ -156,3 +156,46 @@ fn faults_end_the_run_where_they_are_met(rt: HostRuntime) -> Result<(), Fail> {
     }
     Ok(())
 }
+
+/// The word of the command, the realm, the reads of it and the writes that fail, the status, and
+/// what is written. One read takes the whole realm, and the next finds its end.
+type RealmFault = (
+    &'static str,
+    &'static [u8],
+    &'static [u64],
+    &'static [u64],
+    u8,
+    &'static str,
+);
+
+const REALM_FAULTS: [RealmFault; 8] = [
+    ("check", b"", &[1], &[], 4, "error 4 read\n"),
+    ("check", b"=", &[2], &[], 4, "error 4 read\n"),
+    ("check", b"=", &[3], &[], 3, "error 3 realm NotToml\n"),
+    ("check", b"=", &[], &[1], 5, ""),
+    ("replay", b"=", &[2], &[], 4, "error 4 read\n"),
+    ("replay", b"=", &[2], &[1], 5, ""),
+    ("replay", b"=", &[], &[], 3, "error 3 realm NotToml\n"),
+    ("replay", b"", &[2], &[], 0, USER_HEAD_TAKEN),
+];
+
+#[test]
+fn a_realm_is_read_before_the_script(rt: HostRuntime) -> Result<(), Fail> {
+    for (command, realm, reads, puts, status, text) in REALM_FAULTS {
+        let case = Case {
+            script: THREE,
+            realm,
+            failing_realm_reads: reads,
+            failing_reads: &[],
+            failing_puts: puts,
+        };
+        let run = run_on(rt.alloc(), &[command], case)?;
+        assert_eq!(rt; run.status, status, "{command}, reads {reads:?}");
+        assert_eq!(rt;
+            run.text.as_slice(),
+            text.as_bytes(),
+            "{command}, reads {reads:?}"
+        );
+    }
+    Ok(())
+}
