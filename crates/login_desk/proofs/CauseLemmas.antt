@@ -1,5 +1,5 @@
 -- What each status of a run says.
-use Rattle.std.proofs.Common.{◌≡◌, ℕ, ◌<◌, ◌^◌, nat_lt, true, false, List, [], ◌∷◌, ◌++◌, Some, None, Ok, Err, length, refl, sym, ap, subst, ◌∙◌, inl, inr, arith}
+use Rattle.std.proofs.Common.{◌≡◌, ℕ, ◌<◌, ◌^◌, true, List, ◌++◌, Some, None, Ok, Err, length, refl, sym, ap, ◌∙◌, inl, inr, arith}
 use Rattle.std.specs.Prelude.{Option, ◌⊎◌, Result, is_err, IsSomeAnd, IsOk, IsErr}
 use Rattle.std.proofs.lemmas.List.{append-nil, length-append}
 use Rattle.login_base.specs.Outside.{before_known, after_known, Rose, IsAtEnd}
@@ -15,7 +15,7 @@ use Rattle.login_desk.specs.Causes.IsPutFailed.{Usage, Fault, Refusal, Line, Rep
 use Rattle.login_desk.specs.Causes.IsOutOfMemory.{Nothing, Front}
 use Rattle.login_desk.specs.Outside.{OutsideState, IsUnread, IsFaultless}
 use Rattle.login_desk.specs.RealmGiven.{realm_for}
-use Rattle.login_desk.specs.Run.{LineMeans, RunMeans, CommandMeans, TakesRealm, TakesNoRealm, is_status, usage_line}
+use Rattle.login_desk.specs.Run.{LineMeans, RunMeans, TakesRealm, TakesNoRealm, is_status, usage_line}
 use Rattle.login_desk.specs.Run.LineMeans.{Told, Cut}
 use Rattle.login_desk.specs.Run.ReplayMeans.{Answered, Stopped, CutOff, Starved, Overlong}
 use Rattle.login_desk.specs.Run.CheckMeans.{Checked, Unchecked}

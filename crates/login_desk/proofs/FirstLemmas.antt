@@ -1,5 +1,5 @@
 -- The hall that a script begins with.
-use Rattle.std.proofs.Common.{◌≡◌, ◌-◌, ◌^◌, ◌≤◌, ◌+◌, true, List, [], ◌∷◌, ◌++◌, Some, None, refl, ap, subst, ◌∙◌, arith}
+use Rattle.std.proofs.Common.{◌≡◌, ◌-◌, ◌^◌, ◌≤◌, true, List, [], ◌++◌, Some, None, refl, ap, subst, ◌∙◌, arith}
 use Rattle.std.specs.Prelude.{Option}
 use Rattle.std.proofs.lemmas.List.{append-nil}
 use Rattle.facts.specs.declared.fact.Fact.{Fact}
@@ -10,7 +10,7 @@ use Rattle.hall_answers.specs.HasSerials.{HasSerials}
 use Rattle.login_hall.specs.Growth.{chronicle_of}
 use Rattle.login_hall.specs.HallState.{HallState, facts_of}
 use Rattle.login_hall.specs.Legal.{RaisesAtStart}
-use Rattle.login_hall.specs.Start.{IsStart, IsPut, put_without, start_facts}
+use Rattle.login_hall.specs.Start.{IsStart, IsPut, start_facts}
 use Rattle.login_desk.specs.Play.{first_mark, base_of}
 use Rattle.login_desk.specs.RealmGiven.{or_builtin}
 

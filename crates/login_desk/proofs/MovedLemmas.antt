@@ -7,7 +7,7 @@ use Rattle.login_base.specs.Outside.{after_known, Rose}
 use Rattle.realm_data.specs.declared.realm_parts.RealmParts.{RealmParts}
 use Rattle.login_desk.specs.declared.command.Command.{Command}
 use Rattle.login_desk.specs.declared.command.Command.TheVariants as commands
-use Rattle.login_desk.specs.Outcome.{IsAnswered, IsStopped, IsOverlong, IsStarved, IsCutOff, IsReplyDue, read_line, script_line}
+use Rattle.login_desk.specs.Outcome.{IsReplyDue}
 use Rattle.login_desk.specs.Outcome.IsReplyDue.{Whole, Ended, Fault, Limit}
 use Rattle.login_desk.specs.Outside.{SourceState, OutsideState, IsUnwritten}
 use Rattle.login_desk.specs.Run.{LineMeans, ReplayMeans, CheckMeans, WorkMeans}

@@ -1,5 +1,5 @@
 -- A source that is read part after part.
-use Rattle.std.proofs.Common.{◌≡◌, ℕ, List, ◌++◌, length, arith}
+use Rattle.std.proofs.Common.{◌≡◌, ℕ, List, ◌++◌, arith}
 use Rattle.std.specs.Prelude.{Option}
 use Rattle.std.proofs.lemmas.List.{length-append}
 use Rattle.login_base.specs.Outside.{before_known}

@@ -1,13 +1,12 @@
 -- The words of a command line, one after the other.
 use Rattle.std.proofs.Common.{◌≡◌, ℕ, ◌+◌, ◌≤◌, Bool, true, false, List, [], ◌∷◌, length, drop, Some, None, refl, ap, sym, ◌∙◌, arith}
-use Rattle.std.specs.Prelude.{Option}
 use Rattle.std.specs.List.{list_any, position_or_len, slice_get}
 use Rattle.std.proofs.Math.Seq.{take-length}
 use Rattle.std.proofs.Math.ListN.{drop_of_length-le}
 use Rattle.std.proofs.lemmas.List.{drop_more}
 use Rattle.std.proofs.lemmas.Option.{slice_get_within, get_or_from_slice_get}
 use Rattle.login_desk.specs.declared.command.Command.{Command}
-use Rattle.login_desk.specs.Command.{FileNames, WordsRead, is_equals, name_and_value, with_word, files_read, files_after}
+use Rattle.login_desk.specs.Command.{WordsRead, is_equals, name_and_value, with_word, files_read, files_after}
 
 lacks-after : (b : ℕ) (word : List ℕ) (t : Bool) → is_equals b ≡ t → position_or_len is_equals (b ∷ word) ≡ length (b ∷ word) → (position_or_len is_equals word ≡ length word → list_any is_equals word ≡ false) → list_any is_equals (b ∷ word) ≡ false
 lacks-after b word true e h rest = absurd (let h' = rw e at h in omega (arith, h'))

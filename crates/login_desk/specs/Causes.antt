@@ -1,5 +1,5 @@
 -- What each status of a run says.
-use Rattle.std.specs.Prelude.{◌≡◌, ℕ, ◌^◌, ◌<◌, List, Option, Some, None, Result, Ok, Err, length, IsOk, IsErr}
+use Rattle.std.specs.Prelude.{◌≡◌, ℕ, ◌^◌, ◌<◌, List, Option, Some, None, length, IsOk, IsErr}
 use Rattle.login_base.specs.Outside.{after_known, Rose}
 use Rattle.realm_data.specs.declared.realm_parts.RealmParts.{RealmParts}
 use Rattle.login_desk.specs.declared.command.Command.{Command}

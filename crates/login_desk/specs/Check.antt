@@ -1,5 +1,5 @@
 -- What a check says of a realm.
-use Rattle.std.specs.Prelude.{ℕ, ◌+◌, max, min, ◌-◌, ◌^◌, nat_lt, List, [], ◌∷◌, ◌++◌, map, fold, length, codes, decimal, if◌then◌else◌}
+use Rattle.std.specs.Prelude.{ℕ, max, min, ◌-◌, ◌^◌, nat_lt, List, [], ◌∷◌, ◌++◌, map, fold, length, codes, decimal, if◌then◌else◌}
 use Rattle.std.specs.List.{flat_map}
 use Rattle.flow_tree.specs.declared.exec.Exec.{Exec}
 use Rattle.flow_tree.specs.declared.live.LiveLevel.{LiveLevel}

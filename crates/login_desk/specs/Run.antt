@@ -1,5 +1,5 @@
 -- What a run of the program means, by its command and its status.
-use Rattle.std.specs.Prelude.{◌≡◌, ◌⊎◌, ◌==◌, ◌||◌, ℕ, ◌^◌, ◌<◌, Bool, List, [], ◌∷◌, ◌++◌, Option, Some, None, Result, Ok, Err, length, codes}
+use Rattle.std.specs.Prelude.{◌≡◌, ◌⊎◌, ◌==◌, ◌||◌, ℕ, ◌<◌, Bool, List, [], ◌∷◌, ◌++◌, Option, Some, None, Ok, Err, length, codes}
 use Rattle.facts.specs.declared.fact.Fact.{Fact}
 use Rattle.login_base.specs.Outside.{before_known, after_known, IsAtEnd, Rose}
 use Rattle.realm_data.specs.declared.realm_parts.RealmParts.{RealmParts}

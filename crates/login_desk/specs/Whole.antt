@@ -1,5 +1,5 @@
 -- A source that is read whole.
-use Rattle.std.specs.Prelude.{◌≡◌, ℕ, ◌+◌, ◌<◌, ◌≤◌, Bool, true, false, List, ◌++◌, length, take, Option}
+use Rattle.std.specs.Prelude.{◌≡◌, ℕ, ◌+◌, ◌<◌, ◌≤◌, Bool, true, false, List, ◌++◌, length, Option}
 use Rattle.login_base.specs.Outside.{before_known, IsAtEnd}
 use Rattle.login_desk.specs.declared.whole.Whole.{Whole}
 use Rattle.login_desk.specs.declared.whole.Whole.TheVariants as wholes

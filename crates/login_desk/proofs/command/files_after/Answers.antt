@@ -1,4 +1,4 @@
-use Rattle.std.proofs.Common.{◌+◌, Some, drop, ap, sym, ◌∙◌, arith}
+use Rattle.std.proofs.Common.{◌+◌, drop, ap, sym, ◌∙◌, arith}
 use Rattle.login_desk.specs.Command.{files_after, words_read}
 use Rattle.login_desk.proofs.WordLemmas.{after_word, no_more, after_all}
 use Rattle.login_desk.proofs.command.files_after.Goals as goal

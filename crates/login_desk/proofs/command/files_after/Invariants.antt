@@ -1,4 +1,4 @@
-use Rattle.std.proofs.Common.{◌≡◌, ◌≤◌, Some, drop}
+use Rattle.std.proofs.Common.{◌≡◌, Some, drop}
 use Rattle.login_desk.specs.Command.{files_after, no_words, words_read}
 use Rattle.login_desk.proofs.command.files_after.Given as goal
 

@@ -1,5 +1,4 @@
-use Rattle.std.proofs.Common.{◌≡◌, ◌≤◌, length, ap, arith}
-use Rattle.flow_tree.specs.Places.{places}
+use Rattle.std.proofs.Common.{ap, arith}
 use Rattle.login_desk.specs.Check.{execution_count}
 use Rattle.login_desk.proofs.SizeLemmas.{few_executions}
 use Rattle.login_desk.proofs.flow_size.execution_count.Goals as goal

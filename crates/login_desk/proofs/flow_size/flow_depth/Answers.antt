@@ -1,4 +1,4 @@
-use Rattle.std.proofs.Common.{◌≡◌, ◌≤◌, ap, arith}
+use Rattle.std.proofs.Common.{ap, arith}
 use Rattle.login_desk.specs.Check.{flow_depth}
 use Rattle.login_desk.proofs.SizeLemmas.{shallow_flow}
 use Rattle.login_desk.proofs.flow_size.flow_depth.Goals as goal
