@@ -8,4 +8,3 @@ mod RunLemmas
 mod TakingLemmas
 mod WholeLemmas
 mod WordLemmas
-mod SizeLemmas

@@ -5,7 +5,7 @@ use Rattle.realm_data.specs.declared.realm_parts.RealmParts.{RealmParts}
 use Rattle.login_desk.specs.declared.command.Command.{Command}
 use Rattle.login_desk.specs.declared.command.Command.TheVariants as commands
 use Rattle.login_desk.specs.declared.realm_given.NoRealm.{NoRealm}
-use Rattle.login_desk.specs.Check.{check_line}
+use Rattle.realm_check.specs.Check.{check_line}
 use Rattle.login_desk.specs.Outcome.{IsAnswered, IsStopped, IsOverlong, IsStarved, IsCutOff, read_line, script_line}
 use Rattle.login_desk.specs.Outside.{OutsideState}
 use Rattle.login_desk.specs.Play.{base_of}

@@ -1,5 +1,4 @@
 pub mod Causes
-pub mod Check
 pub mod Command
 pub mod Going
 pub mod Intake

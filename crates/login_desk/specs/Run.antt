@@ -8,7 +8,7 @@ use Rattle.login_desk.specs.declared.command.Command.TheVariants as commands
 use Rattle.login_desk.specs.declared.realm_given.NoRealm.{NoRealm}
 use Rattle.login_desk.specs.declared.status.Outcome.{Outcome}
 use Rattle.login_desk.specs.declared.status.Outcome.TheVariants as outcomes
-use Rattle.login_desk.specs.Check.{check_line}
+use Rattle.realm_check.specs.Check.{check_line}
 use Rattle.login_desk.specs.Outcome.{IsAnswered, IsStopped, IsOverlong, IsStarved, IsCutOff, read_line, script_line}
 use Rattle.login_desk.specs.Outside.{OutsideState, IsUnread}
 use Rattle.login_desk.specs.Play.{base_of}

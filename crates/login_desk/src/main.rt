@@ -4,10 +4,8 @@
 //! name, standard input and standard output.
 #![tactic(auto)]
 
-mod check;
 mod command;
 mod edge;
-mod flow_size;
 mod intake;
 mod outside;
 mod play;

@@ -2,7 +2,7 @@ ghost use Rattle.std.specs.Prelude.{◌≡◌, ◌⊎◌, ◌≢◌, IsTrue, IfO
 ghost use Rattle.login_base.specs.Outside.{Rose, counted, after_known};
 ghost use Rattle.login_hall.specs.Start.{IsPlayable};
 ghost use Rattle.login_desk.specs.Causes.{IsReplayed, IsChecked, IsRefused, IsUnreadable, IsPutFailed, IsOutOfMemory, IsTooLong, HasAll, HasNoRealm};
-ghost use Rattle.login_desk.specs.Check.{check_line};
+ghost use Rattle.realm_check.specs.Check.{check_line};
 ghost use Rattle.login_desk.specs.Command.{command_of};
 ghost use Rattle.login_desk.specs.Outside.{IsUnread, IsFaultless};
 ghost use Rattle.login_desk.specs.Play.{base_of};
@@ -10,7 +10,6 @@ ghost use Rattle.login_desk.specs.RealmGiven.{or_builtin, refusal_line};
 ghost use Rattle.login_desk.specs.Run.{RunMeans, CommandMeans, BytesMean, WorkMeans, ReplayMeans, CheckMeans, LineMeans, LineEnds, is_status, usage_line};
 ghost use Rattle.login_desk.specs.Statuses.{number_of};
 
-use crate::check::check_line;
 use crate::command::{Command, command_of};
 use crate::outside::Outside;
 use crate::play::{End, play_script};
@@ -18,6 +17,7 @@ use crate::realm_given::{Given, NoRealm, realm_for, refusal_line, too_long};
 use crate::status::{Outcome, Status};
 use crate::whole::Whole;
 use login_base::{Argv, Memory, Put, Sink, Source, Steps, discard};
+use realm_check::check_line;
 use realm_data::Realm;
 use std::alloc::Global;
 use std::sync::ledger::Ledger;
@@ -195,8 +195,10 @@ pub fn run<L: Ledger, S: Source, R: Source, W: Sink>(
 
     // 0: the realm source was read to its end, and the line of a check is written; or in a replay the
     // script was read to its end too, and every line is answered.
-    ensures replayed { result.0 ≡ 0 → command_of arguments.now ≡ Some Command.Replay → IsReplayed outside.old outside.new }
-    ensures checked { result.0 ≡ 0 → command_of arguments.now ≡ Some Command.Check → IsChecked outside.old outside.new }
+    ensures replayed { result.0 ≡ 0 → command_of arguments.now ≡ Some Command.Replay →
+        IsReplayed outside.old outside.new }
+    ensures checked { result.0 ≡ 0 → command_of arguments.now ≡ Some Command.Check →
+        IsChecked outside.old outside.new }
     ensures realm_end { result.0 ≡ 0 → outside.new.realm.ends ≡ counted outside.old.realm.ends }
     ensures script_end { result.0 ≡ 0 → command_of arguments.now ≡ Some Command.Replay →
         outside.new.script.ends ≡ counted outside.old.script.ends }
@@ -223,7 +225,8 @@ pub fn run<L: Ledger, S: Source, R: Source, W: Sink>(
     ensures put_cause { result.0 ≡ 5 → Rose outside.old.write_faults outside.new.write_faults }
 
     // 7: want of memory; nothing is written, or in a replay the reply lines to the first whole lines.
-    ensures memory { result.0 ≡ 7 → IsSomeAnd (command_of arguments.now) (λ c. IsOutOfMemory c outside.old outside.new) }
+    ensures memory { result.0 ≡ 7 →
+        IsSomeAnd (command_of arguments.now) (λ c. IsOutOfMemory c outside.old outside.new) }
 
     // 9: exactly 2^32 bytes of script were taken; the whole lines in them are answered.
     ensures long { result.0 ≡ 9 → IsSomeAnd (command_of arguments.now) (λ c. IsTooLong c outside.old outside.new) }

@@ -1,6 +1,6 @@
 ghost use Rattle.std.specs.Prelude.{◌≡◌, ℕ, length};
 ghost use Rattle.flow_tree.specs.Places.{placed_at, places_at};
-ghost use Rattle.login_desk.specs.Check.{capped, depths, greatest, execution_count, flow_depth};
+ghost use Rattle.realm_check.specs.Check.{capped, depths, greatest, execution_count, flow_depth};
 
 use flow_tree::{Body, Exec, Tree};
 

@@ -1,7 +1,7 @@
 use Rattle.std.proofs.Common.{ap, arith}
-use Rattle.login_desk.specs.Check.{flow_depth}
-use Rattle.login_desk.proofs.SizeLemmas.{shallow_flow}
-use Rattle.login_desk.proofs.flow_size.flow_depth.Goals as goal
+use Rattle.realm_check.specs.Check.{flow_depth}
+use Rattle.realm_check.proofs.SizeLemmas.{shallow_flow}
+use Rattle.realm_check.proofs.flow_size.flow_depth.Goals as goal
 
 pub returns : goal.returns
 returns c =

@@ -1,7 +1,7 @@
 use Rattle.std.proofs.Common.{ap, arith}
-use Rattle.login_desk.specs.Check.{execution_count}
-use Rattle.login_desk.proofs.SizeLemmas.{few_executions}
-use Rattle.login_desk.proofs.flow_size.execution_count.Goals as goal
+use Rattle.realm_check.specs.Check.{execution_count}
+use Rattle.realm_check.proofs.SizeLemmas.{few_executions}
+use Rattle.realm_check.proofs.flow_size.execution_count.Goals as goal
 
 pub returns : goal.returns
 returns c =

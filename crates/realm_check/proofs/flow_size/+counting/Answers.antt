@@ -1,7 +1,7 @@
 use Rattle.std.proofs.Common.{◌+◌, length, arith, ap}
 use Rattle.flow_tree.specs.Places.{places_at}
 use Rattle.flow_tree.proofs.Placing.{placed_leaf, placed_test, placed_flow}
-use Rattle.login_desk.proofs.flow_size.+counting.Goals as goal
+use Rattle.realm_check.proofs.flow_size.+counting.Goals as goal
 
 pub count_in-returns-in-Auth : goal.count_in-returns-in-Auth
 count_in-returns-in-Auth t c = λ d. let h = ap length (placed_leaf d c.args.exec.now c.in-Auth.field-0 c.in-Auth.is) in omega (arith, h)

@@ -1,9 +1,9 @@
 use Rattle.std.proofs.Common.{◌+◌, arith, ap}
 use Rattle.flow_tree.specs.Places.{places_at}
 use Rattle.flow_tree.proofs.Placing.{placed_leaf, placed_test, placed_flow}
-use Rattle.login_desk.specs.Check.{greatest, depths}
-use Rattle.login_desk.proofs.SizeLemmas.{greatest_one, greatest_first, greatest_more}
-use Rattle.login_desk.proofs.flow_size.+measuring.Goals as goal
+use Rattle.realm_check.specs.Check.{greatest, depths}
+use Rattle.realm_check.proofs.SizeLemmas.{greatest_one, greatest_first, greatest_more}
+use Rattle.realm_check.proofs.flow_size.+measuring.Goals as goal
 
 pub depth_in-returns-in-Auth : goal.depth_in-returns-in-Auth
 depth_in-returns-in-Auth t c = λ d e. let h = greatest_one _ d _ (placed_leaf d c.args.exec.now c.in-Auth.field-0 c.in-Auth.is) in omega (arith, h, e)
