@@ -18,5 +18,6 @@ pub use evidence::has_evidence;
 pub use moments::last_used_moment;
 pub use passwords::password_of;
 pub use realms::{current_realm, last_version, realm_of};
+pub use scan::fold_by;
 pub use serials::{last_stored_serial, last_tab_serial};
 pub use tabs::{tab_state, tab_state_with};

@@ -1,0 +1,4 @@
+pub mod Carrying
+pub mod Count
+pub mod Standings
+pub mod States
