@@ -21,7 +21,10 @@ use Rattle.facts.proofs.SerialLemmas.{last_tab_serial_more, last_stored_serial_m
 use Rattle.realm_data.specs.declared.realm_parts.RealmParts.{RealmParts}
 use Rattle.admin_asks.specs.RealmPut.{check_realm, answer_to_realm, due_realm_put}
 use Rattle.admin_asks.specs.Admin.{check_key, due_verb, verb_with, due_admin}
-use Rattle.admin_asks.specs.UserAdd.{check_built, check_name_free, check_new_user, answer_to_new_user, due_user_add}
+use Rattle.admin_asks.specs.Closing.{answer_to_enable, answer_to_disable, due_enable, due_disable, check_open, due_unlock}
+use Rattle.admin_asks.specs.Named.{check_user}
+use Rattle.admin_asks.specs.SetPassword.{answer_to_set_password, due_set_password}
+use Rattle.admin_asks.specs.UserAdd.{check_built, check_name_free, check_room, check_new_user, answer_to_new_user, due_user_add}
 
 -- a user whose serial is the next one, and its password
 user_lifts : (old : List Fact) (new : NewUser) (finding : Finding) (user : UserId) → user.0 ≡ last_stored_serial old + 1 → Lifts 2 old (answer_to_new_user new finding user).added
@@ -30,16 +33,19 @@ user_lifts old new findings.None user next = lifts 2 old _ (omega arith) (omega 
 user_lifts old new (findings.Checked had fits) user next = lifts 2 old _ (omega arith) (omega arith) refl
 
 -- where nothing refuses, the user is the next one
-next_user : (built free : Result (Unit {0}) Refusal) (serial : ℕ) (user : UserId) → ◌≡◌ {A = Result UserId Refusal} (built >>= (λ x. free >>= (λ y. Ok (record { 0 = serial })))) (Ok user) → user.0 ≡ serial
-next_user (Ok x) (Ok y) serial user h = let e : ◌≡◌ {A = UserId} (record { 0 = serial }) user = cc in ap (λ (u : UserId). u.0) (sym e)
-next_user (Ok x) (Err refusal) serial user h = absurd cc
-next_user (Err refusal) free serial user h = absurd cc
+next_user : (built free room : Result (Unit {0}) Refusal) (serial : ℕ) (user : UserId)
+    → ◌≡◌ {A = Result UserId Refusal} (built >>= (λ x. free >>= (λ y. room >>= (λ z. Ok (record { 0 = serial }))))) (Ok user)
+    → user.0 ≡ serial
+next_user (Ok x) (Ok y) (Ok z) serial user h = let e : ◌≡◌ {A = UserId} (record { 0 = serial }) user = cc in ap (λ (u : UserId). u.0) (sym e)
+next_user (Ok x) (Ok y) (Err refusal) serial user h = absurd cc
+next_user (Ok x) (Err refusal) room serial user h = absurd cc
+next_user (Err refusal) free room serial user h = absurd cc
 
 new_user_lifts : (setting : Setting) (new : NewUser) (finding : Finding) (user : Result UserId Refusal) → check_new_user setting.facts new ≡ user
     → Lifts 2 setting.facts (settled setting.facts None (answer_to_new_user new finding) user).added
 unfolding check_new_user
 new_user_lifts setting new finding (Ok user) h =
-    user_lifts setting.facts new finding user (next_user (check_built new) (check_name_free setting.facts new.name) (last_stored_serial setting.facts + 1) user h)
+    user_lifts setting.facts new finding user (next_user (check_built new) (check_name_free setting.facts new.name) (check_room setting.facts) (last_stored_serial setting.facts + 1) user h)
 new_user_lifts setting new finding (Err refusal) h = nothing 2 setting.facts
 
 -- the next version is the one after the last
@@ -53,10 +59,37 @@ realm_raises setting (Ok realm) =
     }
 realm_raises setting (Err refusal) = raising 2 setting.facts [] (nothing 2 setting.facts)
 
+-- a new password has the next serial
+password_lifts : (setting : Setting) (name : List ℕ) (finding : Finding) (user : Result UserId Refusal)
+    → Lifts 2 setting.facts (settled setting.facts None (answer_to_set_password setting.facts name finding) user).added
+password_lifts setting name (findings.Derived salt count digest) (Ok user) = lifts 2 setting.facts _ (omega arith) (omega arith) refl
+password_lifts setting name findings.None (Ok user) = nothing 2 setting.facts
+password_lifts setting name (findings.Checked had fits) (Ok user) = nothing 2 setting.facts
+password_lifts setting name finding (Err refusal) = nothing 2 setting.facts
+
+-- to open an account and to close it takes no serial
+enable_lifts : (setting : Setting) (name : List ℕ) (user : Result UserId Refusal)
+    → Lifts 2 setting.facts (settled setting.facts None (answer_to_enable name) user).added
+enable_lifts setting name (Ok user) = lifts 2 setting.facts _ (omega arith) (omega arith) refl
+enable_lifts setting name (Err refusal) = nothing 2 setting.facts
+
+disable_lifts : (setting : Setting) (name : List ℕ) (user : Result UserId Refusal)
+    → Lifts 2 setting.facts (settled setting.facts None (answer_to_disable name) user).added
+disable_lifts setting name (Ok user) = lifts 2 setting.facts _ (omega arith) (omega arith) refl
+disable_lifts setting name (Err refusal) = nothing 2 setting.facts
+
 verb_raises : (setting : Setting) (verb : AdminVerb) (finding : Finding) → Raising 2 setting.facts (due_verb setting verb finding).added
-unfolding due_user_add due_realm_put
+unfolding due_user_add due_realm_put due_set_password due_enable due_disable due_unlock
 verb_raises setting (verbs.UserAdd new) finding = raising 2 setting.facts _ (new_user_lifts setting new finding (check_new_user setting.facts new) refl)
 verb_raises setting (verbs.RealmPut realm) finding = realm_raises setting (check_realm realm)
+verb_raises setting (verbs.SetPassword name password) finding =
+    raising 2 setting.facts _ (password_lifts setting name finding (check_user setting.facts name))
+verb_raises setting (verbs.Enable name) finding =
+    raising 2 setting.facts _ (enable_lifts setting name (check_user setting.facts name))
+verb_raises setting (verbs.Disable name) finding =
+    raising 2 setting.facts _ (disable_lifts setting name (check_user setting.facts name))
+verb_raises setting (verbs.Unlock name) finding =
+    raising 2 setting.facts _ (enable_lifts setting name (check_open setting.facts name))
 verb_raises setting verb finding = raising 2 setting.facts [] (nothing 2 setting.facts)
 
 key_raises : (setting : Setting) (verb : AdminVerb) (finding : Finding) (key : Result (Unit {0}) Refusal) → Raising 2 setting.facts (settled setting.facts None (verb_with setting verb finding) key).added

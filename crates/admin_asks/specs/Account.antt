@@ -11,14 +11,16 @@ abbrev pub disabled_facts : UserId → Bool → List Fact
 disabled_facts user true = []
 disabled_facts user false = events.Disabled user ∷ []
 
--- a first password is set by no tab, with the serial after the user's
-abbrev pub password_facts : UserId → Option HashedPassword → List Fact
-password_facts user None = []
-password_facts user (Some hash) = events.SecretSet user kinds.Password (user.0 + 1) (secrets.Password hash) None ∷ []
+-- a password is set by no tab, with this serial
+abbrev pub password_facts : UserId → ℕ → Option HashedPassword → List Fact
+password_facts user serial None = []
+password_facts user serial (Some hash) = events.SecretSet user kinds.Password serial (secrets.Password hash) None ∷ []
 
--- the account is put, closed where it isn't enabled, and given its password; codes and actions aren't built yet
+-- the account is put, closed where it isn't enabled, and given its password, which has the serial after the user's;
+-- codes and actions aren't built yet
 abbrev pub account_facts : UserId → List ℕ → List (List ℕ) → Bool → Option HashedPassword → List Fact
-account_facts user name roles enabled password = events.UserPut user name roles ∷ disabled_facts user enabled ++ password_facts user password
+account_facts user name roles enabled password =
+    events.UserPut user name roles ∷ disabled_facts user enabled ++ password_facts user (user.0 + 1) password
 
 -- how many serials it takes
 abbrev pub serials_of : Option HashedPassword → ℕ

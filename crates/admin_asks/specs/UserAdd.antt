@@ -1,21 +1,21 @@
 -- What the adding of a user is due.
-use Rattle.std.specs.Prelude.{◌≡◌, ℕ, ◌+◌, Bool, true, false, ◌||◌, List, [], ◌∷◌, ◌++◌, Option, Some, None, Result, Ok, Err, is_some, codes, decimal, if◌then◌else◌}
+use Rattle.std.specs.Prelude.{ℕ, ◌+◌, Bool, true, false, ◌||◌, List, [], ◌∷◌, ◌++◌, None, Result, Ok, Err, is_some, codes, decimal, if◌then◌else◌}
 use Rattle.login_base.specs.declared.id.UserId.{UserId}
-use Rattle.realm_data.specs.PasswordHash.{HashedPassword, is_iterations}
 use Rattle.asks.specs.declared.admin.NewUser.{NewUser}
 use Rattle.facts.specs.declared.fact.Fact.{Fact}
 use Rattle.asks.specs.declared.finding.Finding.{Finding}
-use Rattle.asks.specs.declared.finding.Finding.TheVariants as findings
 use Rattle.asks.specs.declared.reply.What.TheVariants as whats
 use Rattle.facts.specs.Accounts.{account_named}
 use Rattle.facts.specs.Serials.{last_stored_serial}
 use Rattle.hall_answers.specs.declared.answer.Answer.{Answer}
 use Rattle.hall_answers.specs.declared.refusal.Refusal.{Refusal}
-use Rattle.hall_answers.specs.declared.refusal.Refusal.TheVariants.{NotBuilt, UserTaken}
+use Rattle.hall_answers.specs.declared.refusal.Refusal.TheVariants.{NotBuilt, UserTaken, TooManyUsers}
 use Rattle.hall_answers.specs.Answers.{reply_in}
 use Rattle.hall_answers.specs.Refusals.{◌>>=◌, settled}
 use Rattle.hall_answers.specs.Setting.{Setting}
+use Rattle.account_states.specs.Count.{has_room}
 use Rattle.admin_asks.specs.Account.{account_facts}
+use Rattle.admin_asks.specs.Passwords.{derived}
 
 abbrev pub has_some : {A : Type 0} → List A → Bool
 has_some [] = false
@@ -29,33 +29,29 @@ check_built new = if is_some new.otp || has_some new.actions then Err NotBuilt e
 unfoldable pub check_name_free : List Fact → List ℕ → Result (Unit {0}) Refusal
 check_name_free facts name = if is_some (account_named name facts) then Err UserTaken else Ok tt
 
+-- there are fewer accounts than there may be
+unfoldable pub check_room : List Fact → Result (Unit {0}) Refusal
+check_room facts = if has_room facts then Ok tt else Err TooManyUsers
+
 -- the new account, or the first refusal
 unfoldable pub check_new_user : List Fact → NewUser → Result UserId Refusal
 check_new_user facts new = do
   built ← check_built new
   free ← check_name_free facts new.name
+  room ← check_room facts
   Ok (record { 0 = last_stored_serial facts + 1 })
 
 -- what an administrator is told of an added user
 abbrev pub user_text : List ℕ → UserId → List ℕ
 user_text name user = codes "user name=" ++ name ++ codes " id=" ++ decimal user.0
 
--- the password that was derived, as it is kept
-abbrev pub derived : Finding → Option HashedPassword
-derived (findings.Derived salt count digest) = Some (record { salt = salt; iterations = count; digest = digest })
-derived (findings.Checked had fits) = None
-derived findings.None = None
-
 -- the account is added, with the password that the ask set
 abbrev pub answer_to_new_user : NewUser → Finding → UserId → Answer
 answer_to_new_user new finding user =
-    record { reply = reply_in None (whats.Told (user_text new.name user)); added = account_facts user new.name new.roles true (derived finding) }
+    record {
+      reply = reply_in None (whats.Told (user_text new.name user));
+      added = account_facts user new.name new.roles true (derived finding);
+    }
 
 unfoldable pub due_user_add : Setting → NewUser → Finding → Answer
 due_user_add setting new finding = settled setting.facts None (answer_to_new_user new finding) (check_new_user setting.facts new)
-
--- a derived password was hashed as often as it may be
-abbrev pub IsKeepable : Finding → Type 0
-IsKeepable (findings.Derived salt count digest) = is_iterations count ≡ true
-IsKeepable (findings.Checked had fits) = Unit {0}
-IsKeepable findings.None = Unit {0}

@@ -15,19 +15,20 @@ fn add_disabled(added: &mut Sequence<Fact>, user: UserId, enabled: bool) -> Resu
     }
 }
 
-fn add_password(
+/// Adds a password, where there is one, that no tab sets.
+pub(crate) fn add_password(
     added: &mut Sequence<Fact>,
     user: UserId,
+    serial: u64,
     password: &Option<PasswordHash>,
 ) -> Result<(), Memory>
-    requires { user.0 < 2 ^ 64 - 1 }
-    ensures { OnOk result (added.new ≡ added.old ++ password_facts user password.now) }
+    ensures { OnOk result (added.new ≡ added.old ++ password_facts user serial password.now) }
 {
     match password {
         Some(hash) => added.push(Fact::SecretSet {
             user,
             kind: SecretKind::Password,
-            serial: user.0 + 1,
+            serial,
             secret: Secret::Password { hash: *hash },
             by: None,
         }),
@@ -55,5 +56,5 @@ pub fn add_account(
         roles: roles.duplicate(alloc)?,
     })?;
     add_disabled(added, user, enabled)?;
-    add_password(added, user, password)
+    add_password(added, user, user.0 + 1, password)
 }

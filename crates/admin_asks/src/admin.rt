@@ -1,9 +1,11 @@
 ghost use Rattle.std.specs.Prelude.{◌≡◌, ◌-◌, ◌^◌, IfOk};
 ghost use Rattle.hall_answers.specs.HasSerials.{HasSerials};
 ghost use Rattle.admin_asks.specs.Admin.{check_key, due_verb, due_admin};
-ghost use Rattle.admin_asks.specs.UserAdd.{IsKeepable};
+ghost use Rattle.admin_asks.specs.Passwords.{IsKeepable};
 
+use crate::closing::{due_disable, due_enable, due_unlock};
 use crate::realm_put::due_realm_put;
+use crate::set_password::due_set_password;
 use crate::user_add::due_user_add;
 use facts::{Access, AdminVerb, Finding, Realm};
 use hall_answers::{Answer, Refusal, Setting, refused};
@@ -34,14 +36,14 @@ fn due_verb<L: Ledger>(
     match verb {
         AdminVerb::RealmPut { realm } => due_realm_put(setting, realm, steps),
         AdminVerb::UserAdd(new) => due_user_add(setting, new, finding, steps),
+        AdminVerb::SetPassword { name, .. } => due_set_password(setting, name, finding, steps),
+        AdminVerb::Enable { name } => due_enable(setting, name, steps),
+        AdminVerb::Disable { name } => due_disable(setting, name, steps),
+        AdminVerb::Unlock { name } => due_unlock(setting, name, steps),
         AdminVerb::Roles { .. }
-        | AdminVerb::SetPassword { .. }
         | AdminVerb::OtpSet { .. }
         | AdminVerb::OtpRemove { .. }
         | AdminVerb::Require { .. }
-        | AdminVerb::Enable { .. }
-        | AdminVerb::Disable { .. }
-        | AdminVerb::Unlock { .. }
         | AdminVerb::Token { .. }
         | AdminVerb::Revoke { .. }
         | AdminVerb::Sweep => {

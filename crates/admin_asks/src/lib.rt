@@ -1,9 +1,14 @@
-//! What the asks of administrators are due: a file for each verb.
+//! What the asks of administrators are due: a file for each verb, but one for those that close an
+//! account and open it.
 #![tactic(auto)]
 
 mod account;
 mod admin;
+mod closing;
+mod named;
+mod passwords;
 mod realm_put;
+mod set_password;
 mod user_add;
 
 pub use account::add_account;

@@ -1,11 +1,13 @@
-ghost use Rattle.std.specs.Prelude.{◌≡◌, ◌<◌, ◌≤◌, ◌-◌, ◌^◌, true, Some, IfOk};
-ghost use Rattle.realm_data.specs.PasswordHash.{is_iterations};
+ghost use Rattle.std.specs.Prelude.{◌≡◌, ◌<◌, ◌≤◌, ◌-◌, ◌^◌, IfOk};
 ghost use Rattle.hall_answers.specs.HasSerials.{HasSerials};
-ghost use Rattle.admin_asks.specs.UserAdd.{check_built, check_name_free, check_new_user, user_text, derived, answer_to_new_user, due_user_add, IsKeepable};
+ghost use Rattle.admin_asks.specs.Passwords.{IsKeepable};
+ghost use Rattle.admin_asks.specs.UserAdd.{check_built, check_name_free, check_room, check_new_user, user_text, answer_to_new_user, due_user_add};
 
 use crate::account::add_account;
+use crate::passwords::derived;
+use account_states::has_room;
 use fact_scans::{account_named, last_stored_serial};
-use facts::{Facts, Finding, NewUser, PasswordHash, What};
+use facts::{Facts, Finding, NewUser, What};
 use hall_answers::{Answer, Refusal, Setting, refused};
 use login_base::{Memory, Name, Sequence, Steps, UserId};
 use std::alloc::Global;
@@ -37,20 +39,44 @@ fn check_name_free<L: Ledger>(
     Ok(())
 }
 
+/// There are fewer accounts than there may be.
+#[tactic(auto, unfolding(crate::specs::UserAdd::check_room))]
+fn check_room<L: Ledger>(
+    alloc: Global,
+    facts: &Facts<'_>,
+    steps: &mut Steps<L>,
+) -> Result<Result<(), Refusal>, Memory>
+    ensures { IfOk result (λ room. room ≡ check_room facts.now) }
+{
+    if has_room(alloc, facts, steps)? {
+        Ok(Ok(()))
+    } else {
+        Ok(Err(Refusal::TooManyUsers))
+    }
+}
+
 /// The new account, or the first refusal.
 #[tactic(auto, unfolding(crate::specs::UserAdd::check_new_user))]
 fn check_new_user<L: Ledger>(
+    alloc: Global,
     facts: &Facts<'_>,
     new: &NewUser,
     steps: &mut Steps<L>,
-) -> Result<UserId, Refusal>
+) -> Result<Result<UserId, Refusal>, Memory>
     requires serials { HasSerials facts.now (2 ^ 63 - 8) }
-    ensures user { result ≡ check_new_user facts.now new.now }
-    ensures small { IfOk result (λ user. user.0 ≤ 2 ^ 63 - 7) }
+    ensures user { IfOk result (λ user. user ≡ check_new_user facts.now new.now) }
+    ensures small { IfOk result (λ user. IfOk user (λ user. user.0 ≤ 2 ^ 63 - 7)) }
 {
-    check_built(new)?;
-    check_name_free(facts, &new.name, steps)?;
-    Ok(UserId(last_stored_serial(facts) + 1))
+    if let Err(refusal) = check_built(new) {
+        return Ok(Err(refusal));
+    }
+    if let Err(refusal) = check_name_free(facts, &new.name, steps) {
+        return Ok(Err(refusal));
+    }
+    if let Err(refusal) = check_room(alloc, facts, steps)? {
+        return Ok(Err(refusal));
+    }
+    Ok(Ok(UserId(last_stored_serial(facts) + 1)))
 }
 
 fn user_text(alloc: Global, name: &Name, user: UserId) -> Result<Sequence<u8>, Memory>
@@ -63,30 +89,6 @@ fn user_text(alloc: Global, name: &Name, user: UserId) -> Result<Sequence<u8>, M
     let number = user.0.to_string(alloc)?;
     text.extend_from_slice(number.as_bytes())?;
     Ok(Sequence::from_vec(text))
-}
-
-/// A password of these parts, which are in their ranges.
-fn kept(salt: &[u8; 16], iterations: u32, digest: &[u8; 32]) -> Option<PasswordHash>
-    requires { is_iterations iterations ≡ true }
-    ensures { result ≡ Some (record { salt = salt.now; iterations = iterations; digest = digest.now }) }
-{
-    let _lengths = (salt.len(), digest.len());
-    PasswordHash::new(salt, iterations, *digest)
-}
-
-/// The password that was derived, as it is kept.
-fn derived(finding: &Finding) -> Option<PasswordHash>
-    requires { IsKeepable finding.now }
-    ensures { result ≡ derived finding.now }
-{
-    match finding {
-        Finding::Derived {
-            salt,
-            iterations,
-            digest,
-        } => kept(salt, *iterations, digest),
-        Finding::None | Finding::Checked { .. } => None,
-    }
 }
 
 /// The account is added, with the password that the ask set.
@@ -122,7 +124,7 @@ pub(crate) fn due_user_add<L: Ledger>(
     ensures { IfOk result (λ answer. answer ≡ due_user_add setting.now new.now finding.now) }
 {
     let facts = setting.facts();
-    match check_new_user(&facts, new, steps) {
+    match check_new_user(setting.alloc, &facts, new, steps)? {
         Ok(user) => answer_to_new_user(setting.alloc, new, finding, user),
         Err(refusal) => refused(setting.alloc, &facts, None, refusal, steps),
     }

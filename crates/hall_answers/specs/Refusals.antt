@@ -28,6 +28,9 @@ abbrev pub what_of : List Fact → Refusal → What
 what_of facts refusals.NotBuilt = whats.BadForm (codes "verb")
 what_of facts refusals.WrongKey = whats.AdminRefused rules.WrongKey
 what_of facts refusals.UserTaken = whats.AdminRefused rules.UserTaken
+what_of facts refusals.TooManyUsers = whats.AdminRefused rules.TooManyUsers
+what_of facts refusals.NoSuchUser = whats.AdminRefused rules.NoSuchUser
+what_of facts refusals.AccountDisabled = whats.AdminRefused rules.AccountDisabled
 what_of facts refusals.RealmRefused = whats.AdminRefused rules.RealmRefused
 what_of facts refusals.NotYet = whats.AdminRefused rules.NotYet
 what_of facts refusals.UnknownClient = whats.UnknownClient
@@ -36,6 +39,7 @@ what_of facts (refusals.Stale current) = whats.Stale current
 what_of facts (refusals.OtherUser tab session) = whats.OtherUser (who_named facts tab) (who_named facts session)
 what_of facts refusals.Finished = whats.Finished
 what_of facts refusals.NotAsked = whats.NotAsked
+what_of facts (refusals.Locked until) = whats.Locked until
 what_of facts refusals.Disabled = whats.Disabled
 what_of facts (refusals.CredentialMoved had now) = whats.CredentialMoved had now
 

@@ -9,6 +9,12 @@ pub enum Refusal {
     WrongKey,
     /// An account has the name already.
     UserTaken,
+    /// There are as many accounts as there may be.
+    TooManyUsers,
+    /// No account has the name.
+    NoSuchUser,
+    /// The account is closed, which takes more than an unlock to open.
+    AccountDisabled,
     /// The text is no realm.
     RealmRefused,
     /// The realm can't be played yet.
@@ -25,7 +31,9 @@ pub enum Refusal {
     Finished,
     /// The execution isn't asked, or takes another form.
     NotAsked,
-    /// The user concerned is disabled.
+    /// The account of the user concerned is locked before this moment, in milliseconds.
+    Locked { until: u64 },
+    /// The account of the user concerned is closed.
     Disabled,
     /// The password was checked against another one than the user's.
     CredentialMoved { had: u64, now: u64 },

@@ -44,6 +44,15 @@ fn what_of<L: Ledger>(
         Refusal::UserTaken => What::AdminRefused {
             rule: Rule::UserTaken,
         },
+        Refusal::TooManyUsers => What::AdminRefused {
+            rule: Rule::TooManyUsers,
+        },
+        Refusal::NoSuchUser => What::AdminRefused {
+            rule: Rule::NoSuchUser,
+        },
+        Refusal::AccountDisabled => What::AdminRefused {
+            rule: Rule::AccountDisabled,
+        },
         Refusal::RealmRefused => What::AdminRefused {
             rule: Rule::RealmRefused,
         },
@@ -57,6 +66,7 @@ fn what_of<L: Ledger>(
         },
         Refusal::Finished => What::Finished,
         Refusal::NotAsked => What::NotAsked,
+        Refusal::Locked { until } => What::Locked { until },
         Refusal::Disabled => What::Disabled,
         Refusal::CredentialMoved { had, now } => What::CredentialMoved { had, now },
     })

@@ -1,5 +1,5 @@
 -- What holds of each fact that an answer adds.
-use Rattle.std.proofs.Common.{◌≡◌, ℕ, ◌+◌, Bool, true, false, List, [], ◌∷◌, ◌++◌, Some, None, refl}
+use Rattle.std.proofs.Common.{◌≡◌, ℕ, ◌+◌, Bool, true, false, List, [], ◌∷◌, ◌++◌, Some, None, refl, sym, ap, subst, ◌∙◌}
 use Rattle.std.specs.Prelude.{Option, Result, Ok, Err, is_some}
 use Rattle.std.specs.List.{All}
 use Rattle.std.proofs.lemmas.List.Elements.{All-nil, All-cons, All-append}
@@ -26,7 +26,9 @@ use Rattle.asks.specs.declared.finding.Finding.{Finding}
 use Rattle.asks.specs.declared.finding.Finding.TheVariants as findings
 use Rattle.facts.specs.declared.secret.Secret.{Secret}
 use Rattle.facts.specs.declared.secret.Secret.TheVariants as secrets
-use Rattle.facts.specs.Tabs.{live_session}
+use Rattle.facts.specs.Serials.{last_stored_serial}
+use Rattle.facts.specs.Tabs.{live_session, who_of}
+use Rattle.facts.specs.declared.user_password.UserPassword.{UserPassword}
 use Rattle.hall_answers.specs.declared.answer.Answer.{Answer}
 use Rattle.hall_answers.specs.declared.refusal.Refusal.{Refusal}
 use Rattle.hall_answers.specs.Ids.{next_code}
@@ -40,27 +42,86 @@ use Rattle.tab_asks.specs.declared.check.Check.{Check}
 use Rattle.tab_asks.specs.declared.check.Check.TheVariants as checks
 use Rattle.tab_asks.specs.NewTab.{check_new_tab, facts_opened, opening_fact, tab_opened, new_tab_answer, due_new_tab}
 use Rattle.tab_asks.specs.Pages.{page_fact, session_for, session_fact, completion, progress_answer, tab_answer, tab_answer_then, visit_answer, due_page}
-use Rattle.tab_asks.specs.Post.{check_post, check_form, evidence_by, known_over, failure_of, answer_to_accepted, answer_to_wrong, answer_to_check, post_where, post_by, post_in, due_post}
-use Rattle.tab_asks.specs.Visit.{check_tab, check_visit}
-use Rattle.admin_asks.specs.Account.{account_facts}
+use Rattle.tab_asks.specs.Post.{check_post, check_form, check_of, name_check, password_check, evidence_by, known_over, failure_of, answer_to_accepted, answer_to_wrong, answer_to_check, post_where, post_by, post_in, due_post}
+use Rattle.tab_asks.specs.Forms.{named_by, target_of, concerned}
+use Rattle.tab_asks.specs.Visit.{check_tab, check_visit, check_account}
+use Rattle.admin_asks.specs.Account.{account_facts, password_facts}
+use Rattle.admin_asks.specs.Closing.{answer_to_enable, answer_to_disable, due_enable, due_disable, check_open, due_unlock}
+use Rattle.admin_asks.specs.Named.{check_user}
+use Rattle.admin_asks.specs.Passwords.{derived}
+use Rattle.admin_asks.specs.SetPassword.{answer_to_set_password, due_set_password}
 use Rattle.admin_asks.specs.RealmPut.{check_realm, answer_to_realm, due_realm_put}
 use Rattle.admin_asks.specs.Admin.{check_key, due_verb, verb_with, due_admin}
-use Rattle.admin_asks.specs.UserAdd.{check_new_user, derived, answer_to_new_user, due_user_add}
+use Rattle.admin_asks.specs.UserAdd.{check_new_user, answer_to_new_user, due_user_add}
 use Rattle.login_hall.specs.Due.{due_ask}
+use Rattle.login_progress.specs.PasswordFor.{password_for}
+use Rattle.asks.specs.declared.ask.Form.{Form}
+use Rattle.asks.specs.declared.ask.Form.TheVariants as forms
+use Rattle.asks.specs.declared.reply.Need.{Need}
+use Rattle.facts.specs.Accounts.{account_named}
+use Rattle.hall_laws.proofs.PostReadiness.{is_current, is_fitting}
 use Rattle.hall_laws.specs.AskedEvidence.{is_post}
 use Rattle.hall_laws.specs.Ready.{IsAccepted, asked_at}
 
--- it holds of each fact that asks add, but for evidence
+-- it holds of each fact that asks add, but for evidence and failures
 pub record Allows (P : Fact → Type 0) : Type 0 where
   pub page : (tab : TabKey) (code : Code) → P (page_fact tab code)
   pub seen : (session : SessionId) (moment : ℕ) → P (events.Seen session moment)
   pub session : (session : SessionId) (root : Option RootKey) (user : UserId) (moment idle most : ℕ) → P (events.Session session root user moment idle most)
   pub completed : (tab : TabKey) (user : UserId) (session : SessionId) (moment : ℕ) → P (events.Completed tab user session moment)
   pub opened : (root : RootKey) (tab : TabKey) (version level life moment : ℕ) → P (events.Opened root tab version level life moment)
-  pub failed : (user : UserId) (moment : ℕ) → P (events.Failed user moment)
+  pub enabled : (user : UserId) → P (events.Enabled user)
+  pub disabled : (user : UserId) → P (events.Disabled user)
   pub realm_put : (version : ℕ) (realm : RealmParts) → P (events.RealmPut version realm)
   pub user_put : (user : UserId) (name : List ℕ) (roles : List (List ℕ)) → P (events.UserPut user name roles)
   pub secret_set : (user : UserId) (kind : SecretKind) (serial : ℕ) (secret : Secret) (by : Option TabKey) → P (events.SecretSet user kind serial secret by)
+
+-- it holds of each failure that counts over these facts: that of a user whose account is open
+abbrev pub AllowsFailures : (Fact → Type 0) → Setting → Type 0
+AllowsFailures P setting = (user : UserId) → check_account setting.facts setting.moment (Some user) ≡ Ok tt → P (events.Failed user setting.moment)
+
+-- ---- whose failure counts
+
+name_wrong : (named : Option UserId) (user : UserId) → name_check named ≡ checks.Wrong (Some user) → named ≡ Some user
+name_wrong (Some other) user h = absurd cc
+name_wrong None user h = absurd cc
+
+password_wrong : (target : Option UserId) (password : Option UserPassword) (finding : Finding) (user : UserId)
+    → password_check target password finding ≡ checks.Wrong (Some user) → target ≡ Some user
+unfolding password_check
+password_wrong None password finding user h = absurd cc
+password_wrong (Some other) None finding user h = cc
+password_wrong (Some other) (Some kept) (findings.Checked had true) user h = absurd cc
+password_wrong (Some other) (Some kept) (findings.Checked had false) user h = cc
+password_wrong (Some other) (Some kept) finding user h = cc
+
+-- it is that of the user concerned
+wrong_concerned : (facts : List Fact) (who : Option UserId) (password : Option UserPassword) (form : Form) (finding : Finding) (user : UserId)
+    → check_of (named_by facts form) (target_of (named_by facts form) who form) password form finding ≡ checks.Wrong (Some user)
+    → concerned (named_by facts form) who ≡ Some user
+wrong_concerned facts who password (forms.Username execution name) finding user h = rw (name_wrong (account_named name facts) user h) refl
+wrong_concerned facts who password (forms.NamePassword execution name given) finding user h = rw (password_wrong (account_named name facts) password finding user h) refl
+wrong_concerned facts who password (forms.Password execution given) finding user h = password_wrong who password finding user h
+wrong_concerned facts who password (forms.Value execution value) finding user h = let e = password_wrong None password finding user h in absurd cc
+wrong_concerned facts who password forms.Terms finding user h = let e = password_wrong None password finding user h in absurd cc
+wrong_concerned facts who password (forms.UpdatePassword given) finding user h = let e = password_wrong None password finding user h in absurd cc
+wrong_concerned facts who password (forms.ConfigureOtp value) finding user h = let e = password_wrong None password finding user h in absurd cc
+wrong_concerned facts who password forms.RecoveryCodes finding user h = let e = password_wrong None password finding user h in absurd cc
+wrong_concerned facts who password forms.VerifyEmail finding user h = let e = password_wrong None password finding user h in absurd cc
+
+-- and the account of that user is open
+wrong_open : (setting : Setting) (post : Post) (finding : Finding) (known : KnownTab) (named : Option UserId) (asked : List Need) (user : UserId)
+    → check_post setting.facts setting.moment known post ≡ Ok named
+    → check_form setting.facts setting.moment known asked named post.form finding ≡ Ok (checks.Wrong (Some user))
+    → check_account setting.facts setting.moment (Some user) ≡ Ok tt
+wrong_open setting post finding known named asked user is_named fits =
+    let who = who_of setting.moment known.state in
+    let current = is_current setting.facts setting.moment known post named is_named in
+    let fitting = is_fitting setting.facts setting.moment known asked named post.form finding (checks.Wrong (Some user)) fits in
+    let is = wrong_concerned setting.facts who _ post.form finding user
+    (subst (λ (n : Option UserId). check_of n (target_of n who post.form) (password_for setting.facts (target_of n who post.form)) post.form finding ≡ checks.Wrong (Some user)) (sym current.is_named) fitting.is_check) in
+    let whose : concerned named who ≡ Some user = ap (λ (n : Option UserId). concerned n who) (sym current.is_named) ∙ is in
+    subst (λ (u : Option UserId). check_account setting.facts setting.moment u ≡ Ok tt) whose fitting.account
 
 module _ (P : Fact → Type 0) (allows : Allows P) where
   settled_all : {A : Type 0} (facts : List Fact) (tab : Option TabKey) (answer : A → Answer) (result : Result A Refusal)
@@ -116,13 +177,16 @@ module _ (P : Fact → Type 0) (allows : Allows P) where
 
   -- ---- posts
 
-  wrong_all : (setting : Setting) (tab : TabKey) (user : Option UserId) → All P (failure_of user setting.moment ++ page_fact tab (next_code setting.facts setting.draws) ∷ [])
-  wrong_all setting tab None = page_alone tab (next_code setting.facts setting.draws)
-  wrong_all setting tab (Some user) =
+  wrong_all : (setting : Setting) (tab : TabKey) (user : Option UserId)
+      → ((failing : UserId) → user ≡ Some failing → P (events.Failed failing setting.moment))
+      → All P (failure_of user setting.moment ++ page_fact tab (next_code setting.facts setting.draws) ∷ [])
+  wrong_all setting tab None failed = page_alone tab (next_code setting.facts setting.draws)
+  wrong_all setting tab (Some user) failed =
       let code = next_code setting.facts setting.draws in
-      All-cons P (events.Failed user setting.moment) (page_fact tab code ∷ []) (allows.failed user setting.moment) (page_alone tab code)
+      All-cons P (events.Failed user setting.moment) (page_fact tab code ∷ []) (failed user refl) (page_alone tab code)
 
   module _ (setting : Setting) (post : Post) (finding : Finding)
+      (failed : AllowsFailures P setting)
       (evidence : (accepted : IsAccepted setting post finding) → All P (evidence_by setting accepted.known post.form accepted.user accepted.credential)) where
     check_all : (known : KnownTab) (named : Option UserId) (check : Check) → check_tab setting.facts post.root post.tab ≡ Ok known → check_post setting.facts setting.moment known post ≡ Ok named
         → check_form setting.facts setting.moment known (asked_at setting known) named post.form finding ≡ Ok check
@@ -133,7 +197,10 @@ module _ (P : Fact → Type 0) (allows : Allows P) where
         let added = evidence_by setting known post.form user credential in
         let more = setting.facts ++ added in
         All-append P added (tab_answer more setting (known_over known more)).added (evidence accepted) (tab_all more setting (known_over known more))
-    check_all known named (checks.Wrong user) is_known is_named fits = wrong_all setting known.tab user
+    check_all known named (checks.Wrong user) is_known is_named fits =
+        wrong_all setting known.tab user (λ failing is.
+        let whose = subst (λ (u : Option UserId). check_form setting.facts setting.moment known (asked_at setting known) named post.form finding ≡ Ok (checks.Wrong u)) is fits in
+        failed failing (wrong_open setting post finding known named (asked_at setting known) failing is_named whose))
 
     pub post_all : All P (due_post setting post finding).added
     unfolding due_post post_in post_where
@@ -147,13 +214,17 @@ module _ (P : Fact → Type 0) (allows : Allows P) where
 
   -- ---- administrators
 
-  account_all : (user : UserId) (name : List ℕ) (roles : List (List ℕ)) (finding : Finding) → All P (account_facts user name roles true (derived finding))
-  account_all user name roles (findings.Derived salt count digest) =
+  password_all : (user : UserId) (serial : ℕ) (finding : Finding) → All P (password_facts user serial (derived finding))
+  password_all user serial (findings.Derived salt count digest) =
       let secret : Secret = secrets.Password (record { salt = salt; iterations = count; digest = digest }) in
-      let set = events.SecretSet user kinds.Password (user.0 + 1) secret None in
-      All-cons P (events.UserPut user name roles) (set ∷ []) (allows.user_put user name roles) (All-cons P set [] (allows.secret_set user kinds.Password (user.0 + 1) secret None) (All-nil P))
-  account_all user name roles (findings.Checked had fits) = All-cons P (events.UserPut user name roles) [] (allows.user_put user name roles) (All-nil P)
-  account_all user name roles findings.None = All-cons P (events.UserPut user name roles) [] (allows.user_put user name roles) (All-nil P)
+      All-cons P (events.SecretSet user kinds.Password serial secret None) [] (allows.secret_set user kinds.Password serial secret None) (All-nil P)
+  password_all user serial (findings.Checked had fits) = All-nil P
+  password_all user serial findings.None = All-nil P
+
+  account_all : (user : UserId) (name : List ℕ) (roles : List (List ℕ)) (finding : Finding) → All P (account_facts user name roles true (derived finding))
+  account_all user name roles finding =
+      All-cons P (events.UserPut user name roles) (password_facts user (user.0 + 1) (derived finding)) (allows.user_put user name roles)
+      (password_all user (user.0 + 1) finding)
 
   user_all : (setting : Setting) (new : NewUser) (finding : Finding) → All P (due_user_add setting new finding).added
   unfolding due_user_add
@@ -167,17 +238,34 @@ module _ (P : Fact → Type 0) (allows : Allows P) where
       let version = last_version setting.facts + 1 in
       All-cons P (events.RealmPut version put) [] (allows.realm_put version put) (All-nil P))
 
+  set_password_all : (setting : Setting) (name : List ℕ) (finding : Finding) → All P (due_set_password setting name finding).added
+  unfolding due_set_password
+  set_password_all setting name finding =
+      settled_all setting.facts None (answer_to_set_password setting.facts name finding) (check_user setting.facts name) (λ user is.
+      password_all user (last_stored_serial setting.facts + 1) finding)
+
+  enable_all : (setting : Setting) (name : List ℕ) (user : Result UserId Refusal) → All P (settled setting.facts None (answer_to_enable name) user).added
+  enable_all setting name user =
+      settled_all setting.facts None (answer_to_enable name) user (λ user is. All-cons P (events.Enabled user) [] (allows.enabled user) (All-nil P))
+
+  disable_all : (setting : Setting) (name : List ℕ) → All P (due_disable setting name).added
+  unfolding due_disable
+  disable_all setting name =
+      settled_all setting.facts None (answer_to_disable name) (check_user setting.facts name) (λ user is.
+      All-cons P (events.Disabled user) [] (allows.disabled user) (All-nil P))
+
   verb_all : (setting : Setting) (verb : AdminVerb) (finding : Finding) → All P (due_verb setting verb finding).added
+  unfolding due_enable due_unlock
   verb_all setting (verbs.RealmPut realm) finding = realm_all setting realm
   verb_all setting (verbs.UserAdd new) finding = user_all setting new finding
   verb_all setting (verbs.Roles name roles) finding = All-nil P
-  verb_all setting (verbs.SetPassword name password) finding = All-nil P
+  verb_all setting (verbs.SetPassword name password) finding = set_password_all setting name finding
   verb_all setting (verbs.OtpSet name secret) finding = All-nil P
   verb_all setting (verbs.OtpRemove name) finding = All-nil P
   verb_all setting (verbs.Require name action) finding = All-nil P
-  verb_all setting (verbs.Enable name) finding = All-nil P
-  verb_all setting (verbs.Disable name) finding = All-nil P
-  verb_all setting (verbs.Unlock name) finding = All-nil P
+  verb_all setting (verbs.Enable name) finding = enable_all setting name (check_user setting.facts name)
+  verb_all setting (verbs.Disable name) finding = disable_all setting name
+  verb_all setting (verbs.Unlock name) finding = enable_all setting name (check_open setting.facts name)
   verb_all setting (verbs.Token name action life) finding = All-nil P
   verb_all setting (verbs.Revoke session) finding = All-nil P
   verb_all setting verbs.Sweep finding = All-nil P
@@ -200,13 +288,14 @@ module _ (P : Fact → Type 0) (allows : Allows P) where
   other_all setting (asks.Admin access verb) finding h = admin_all setting access verb finding
 
   pub ask_all : (setting : Setting) (ask : Ask) (finding : Finding)
+      → AllowsFailures P setting
       → ((post : Post) (accepted : IsAccepted setting post finding) → All P (evidence_by setting accepted.known post.form accepted.user accepted.credential))
       → All P (due_ask setting ask finding).added
-  ask_all setting (asks.Bad at) finding evidence = All-nil P
-  ask_all setting (asks.NewTab new) finding evidence = open_all setting new
-  ask_all setting (asks.Page root tab) finding evidence = page_all setting root tab
-  ask_all setting (asks.Post post) finding evidence = post_all setting post finding (evidence post)
-  ask_all setting (asks.Verify key) finding evidence = All-nil P
-  ask_all setting (asks.Reset key password) finding evidence = All-nil P
-  ask_all setting (asks.Logout root) finding evidence = All-nil P
-  ask_all setting (asks.Admin access verb) finding evidence = admin_all setting access verb finding
+  ask_all setting (asks.Bad at) finding failed evidence = All-nil P
+  ask_all setting (asks.NewTab new) finding failed evidence = open_all setting new
+  ask_all setting (asks.Page root tab) finding failed evidence = page_all setting root tab
+  ask_all setting (asks.Post post) finding failed evidence = post_all setting post finding failed (evidence post)
+  ask_all setting (asks.Verify key) finding failed evidence = All-nil P
+  ask_all setting (asks.Reset key password) finding failed evidence = All-nil P
+  ask_all setting (asks.Logout root) finding failed evidence = All-nil P
+  ask_all setting (asks.Admin access verb) finding failed evidence = admin_all setting access verb finding

@@ -81,7 +81,8 @@ asked_allows setting post = record {
   session = λ session root user moment idle most. tt;
   completed = λ tab user session moment. tt;
   opened = λ root tab version level life moment. tt;
-  failed = λ user moment. tt;
+  enabled = λ user. tt;
+  disabled = λ user. tt;
   realm_put = λ version realm. tt;
   user_put = λ user name roles. tt;
   secret_set = λ user kind serial secret by. tt;
@@ -89,7 +90,7 @@ asked_allows setting post = record {
 
 pub evidence_asked : (setting : Setting) (post : Post) (finding : Finding) → All (IsAskedEvidence setting post) (due_post setting post finding).added
 evidence_asked setting post finding =
-    post_all (IsAskedEvidence setting post) (asked_allows setting post) setting post finding (λ accepted.
+    post_all (IsAskedEvidence setting post) (asked_allows setting post) setting post finding (λ user opened. tt) (λ accepted.
     let passing : Passing = record { tab = accepted.known.tab; user = accepted.user; credential = accepted.credential; moment = setting.moment } in
     form_asked setting post passing post.form (accepted_right setting post finding accepted))
 
@@ -105,7 +106,8 @@ none_allows = record {
   session = λ session root user moment idle most. refl;
   completed = λ tab user session moment. refl;
   opened = λ root tab version level life moment. refl;
-  failed = λ user moment. refl;
+  enabled = λ user. refl;
+  disabled = λ user. refl;
   realm_put = λ version realm. refl;
   user_put = λ user name roles. refl;
   secret_set = λ user kind serial secret by. refl;

@@ -7,13 +7,15 @@ use Rattle.login_base.specs.declared.id.TabKey.{TabKey}
 use Rattle.login_base.specs.declared.id.UserId.{UserId}
 use Rattle.facts.specs.declared.fact.Fact.{Fact}
 use Rattle.facts.specs.declared.tabs.RootSession.{RootSession}
-use Rattle.facts.specs.Accounts.{is_disabled}
+use Rattle.account_states.specs.States.{is_closed}
+use Rattle.account_states.specs.Standings.{standing_of}
+use Rattle.lockout.specs.Standing.{is_locked}
 use Rattle.facts.specs.Tabs.{user_among}
 use Rattle.hall_answers.specs.declared.answer.Answer.{Answer}
 use Rattle.hall_answers.specs.declared.refusal.Refusal.{Refusal}
 use Rattle.hall_answers.specs.declared.refusal.Refusal.TheVariants as refusals
 use Rattle.hall_answers.specs.Refusals.{◌>>=◌, what_of, settled}
-use Rattle.tab_asks.specs.Visit.{same_user, user_of, check_enabled}
+use Rattle.tab_asks.specs.Visit.{same_user, user_of, check_unlocked, check_enabled, check_account}
 use Rattle.hall_laws.specs.Ready.{done_for}
 
 pub first_passed : {A : Type 0} (first : Result (Unit {0}) Refusal) (more : Unit {0} → Result A Refusal) (x : A)
@@ -70,13 +72,24 @@ concerned_is None first live h = refl
 concerned_is (Some user) first None h = refl
 concerned_is (Some user) first (Some own) h = ap Some (same_is user own.user h)
 
-pub enabled_is : (facts : List Fact) (user : UserId) → check_enabled facts (Some user) ≡ Ok tt → is_disabled user facts ≡ false
-unfolding check_enabled
-enabled_is facts user h = test_failed (is_disabled user facts) refusals.Disabled h
+-- the account is neither locked nor closed
+pub record IsOpen (facts : List Fact) (moment : ℕ) (user : UserId) : Type 0 where
+  pub unlocked : is_locked (standing_of user facts) moment ≡ false
+  pub enabled : is_closed user facts ≡ false
 
-pub is_enabled : (facts : List Fact) (user : UserId) → is_disabled user facts ≡ false → check_enabled facts (Some user) ≡ Ok tt
-unfolding check_enabled
-is_enabled facts user h = rw h refl
+pub open_is : (facts : List Fact) (moment : ℕ) (user : UserId) → check_account facts moment (Some user) ≡ Ok tt → IsOpen facts moment user
+unfolding check_account check_unlocked check_enabled
+open_is facts moment user h =
+    let standing = standing_of user facts in
+    let both = first_passed (check_unlocked moment standing) _ tt h in
+    record {
+      unlocked = test_failed (is_locked standing moment) (refusals.Locked standing.until) both.0;
+      enabled = test_failed (is_closed user facts) refusals.Disabled both.1;
+    }
+
+pub is_open : (facts : List Fact) (moment : ℕ) (user : UserId) → IsOpen facts moment user → check_account facts moment (Some user) ≡ Ok tt
+unfolding check_account check_unlocked check_enabled
+is_open facts moment user opened = rw (opened.unlocked, opened.enabled) refl
 
 -- ---- refusals complete no login
 
@@ -84,6 +97,9 @@ not_done : (facts : List Fact) (refusal : Refusal) → done_for (what_of facts r
 not_done facts refusals.NotBuilt = refl
 not_done facts refusals.WrongKey = refl
 not_done facts refusals.UserTaken = refl
+not_done facts refusals.TooManyUsers = refl
+not_done facts refusals.NoSuchUser = refl
+not_done facts refusals.AccountDisabled = refl
 not_done facts refusals.RealmRefused = refl
 not_done facts refusals.NotYet = refl
 not_done facts refusals.UnknownClient = refl
@@ -92,6 +108,7 @@ not_done facts (refusals.Stale current) = refl
 not_done facts (refusals.OtherUser tab session) = refl
 not_done facts refusals.Finished = refl
 not_done facts refusals.NotAsked = refl
+not_done facts (refusals.Locked until) = refl
 not_done facts refusals.Disabled = refl
 not_done facts (refusals.CredentialMoved had now) = refl
 

@@ -1,4 +1,6 @@
 pub mod Added
+pub mod Checking
+pub mod ClosedAccounts
 pub mod CodeSerials
 pub mod Evidencing
 pub mod Gates

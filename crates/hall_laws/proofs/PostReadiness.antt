@@ -20,6 +20,9 @@ use Rattle.facts.specs.Tabs.{tab_state, live_session, who_of}
 use Rattle.hall_answers.specs.declared.refusal.Refusal.{Refusal}
 use Rattle.hall_answers.specs.declared.refusal.Refusal.TheVariants as refusals
 use Rattle.hall_answers.specs.Setting.{Setting}
+use Rattle.account_states.specs.declared.state.AccountState.{AccountState}
+use Rattle.account_states.specs.States.{is_closed_in}
+use Rattle.lockout.specs.Standing.{is_locked}
 use Rattle.login_progress.specs.declared.known_tab.KnownTab.{KnownTab}
 use Rattle.login_progress.specs.PasswordFor.{password_for}
 use Rattle.login_progress.specs.Progress.{progress_of, asked_in}
@@ -28,11 +31,11 @@ use Rattle.tab_asks.specs.declared.check.Check.TheVariants as checks
 use Rattle.tab_asks.specs.declared.passing.Passing.{Passing}
 use Rattle.tab_asks.specs.Forms.{named_by, target_of, concerned}
 use Rattle.tab_asks.specs.Post.{is_code, check_code, check_user, check_post, has_need, check_asked, check_credential, check_form, password_check, name_check, check_of, known_over, answer_to_accepted, answer_to_wrong, answer_to_check, post_where, post_by, post_in, due_post}
-use Rattle.tab_asks.specs.Visit.{tab_in, tab_with, check_tab, check_whole, check_unfinished, check_enabled, user_of, same_user}
+use Rattle.tab_asks.specs.Visit.{tab_in, tab_with, check_tab, check_whole, check_unfinished, check_account, user_of, same_user}
 use Rattle.hall_laws.specs.Ready.{IsReady, IsAccepted, IsReadyAfterPost, facts_accepted, done_for}
-use Rattle.hall_laws.proofs.Gates.{first_passed, test_passed, test_failed, whole_is, enabled_is, same_either, concerned_is, settled_done}
+use Rattle.hall_laws.proofs.Gates.{first_passed, test_passed, test_failed, whole_is, open_is, same_either, concerned_is, settled_done}
 use Rattle.hall_laws.proofs.Readiness.{lets_in, ready_user, tab_done, known_at, ready_progress}
-use Rattle.hall_laws.proofs.TabStates.{named_as, with_name, evidence_state, disabled_kept}
+use Rattle.hall_laws.proofs.TabStates.{named_as, with_name, evidence_state, account_kept}
 
 -- ---- what an accepted post passed
 
@@ -81,7 +84,7 @@ is_current facts moment known post named h =
 -- what check_form found
 pub record Fitting (facts : List Fact) (moment : ℕ) (known : KnownTab) (asked : List Need) (named : Option UserId) (form : Form) (finding : Finding) (check : Check) : Type 0 where
   pub form_asked : has_need asked form ≡ true
-  pub enabled : check_enabled facts (concerned named (who_of moment known.state)) ≡ Ok tt
+  pub account : check_account facts moment (concerned named (who_of moment known.state)) ≡ Ok tt
   pub is_check : check_of named (target_of named (who_of moment known.state) form) (password_for facts (target_of named (who_of moment known.state) form)) form finding ≡ check
 
 pub is_fitting : (facts : List Fact) (moment : ℕ) (known : KnownTab) (asked : List Need) (named : Option UserId) (form : Form) (finding : Finding) (check : Check)
@@ -91,12 +94,12 @@ is_fitting facts moment known asked named form finding check h =
     let who = who_of moment known.state in
     let password = password_for facts (target_of named who form) in
     let first = first_passed (check_asked asked form) _ check h in
-    let second = first_passed (check_enabled facts (concerned named who)) _ check first.1 in
+    let second = first_passed (check_account facts moment (concerned named who)) _ check first.1 in
     let third = first_passed (check_credential password finding) _ check second.1 in
     let last : ◌≡◌ {A = Result Check Refusal} (Ok (check_of named (target_of named who form) password form finding)) (Ok check) = third.1 in
     record {
       form_asked = test_passed (has_need asked form) refusals.NotAsked first.0;
-      enabled = second.0;
+      account = second.0;
       is_check = cc;
     }
 
@@ -192,7 +195,7 @@ progress_ready setting post finding accepted user h =
     let lets = lets_in more known.tab (who_of setting.moment now) (realm_of known.opening.version more) user h in
     let same = subst (λ (n : Option UserId). same_user n (user_of live) ≡ Ok tt) b.current.is_named b.current.same in
     let who = concerned_is named known.state.named live same ∙ sym (ap (who_of setting.moment) b.is_state) ∙ lets.is_theirs in
-    let enabled = enabled_is facts user (subst (λ (w : Option UserId). check_enabled facts w ≡ Ok tt) who b.fitting.enabled) in
+    let opened = open_is facts setting.moment user (subst (λ (w : Option UserId). check_account facts setting.moment w ≡ Ok tt) who b.fitting.account) in
     let passing : Passing = record { tab = known.tab; user = accepted.user; credential = accepted.credential; moment = setting.moment } in
     record {
       opening = known.opening;
@@ -202,7 +205,8 @@ progress_ready setting post finding accepted user h =
       is_unfinished = ap (λ (s : TabState). s.completed) b.is_state ∙ b.current.unfinished;
       is_whole = whole_is now.named (live_session setting.moment now) (whole_behind setting post finding accepted);
       is_theirs = lets.is_theirs;
-      is_enabled = disabled_kept facts passing post.form user ∙ enabled;
+      is_unlocked = ap (λ (s : AccountState). is_locked s.standing setting.moment) (account_kept facts passing post.form user) ∙ opened.unlocked;
+      is_enabled = ap is_closed_in (account_kept facts passing post.form user) ∙ opened.enabled;
       holds = lets.holds;
     }
 

@@ -24,9 +24,9 @@ use Rattle.login_progress.specs.Asked.{asked_of, blocked, first_denied, first_no
 use Rattle.login_progress.specs.Progress.{asked_or, lacking, ready_for, truths_in, progress_in, progress_under, progress_of}
 use Rattle.tab_asks.specs.NewTab.{check_new_tab, new_tab_answer, due_new_tab, facts_opened, new_root_key, new_tab_key, opening_at}
 use Rattle.tab_asks.specs.Pages.{completion, progress_answer, tab_answer, tab_answer_then, visit_answer, due_page}
-use Rattle.tab_asks.specs.Visit.{tab_in, tab_with, check_tab, check_whole, check_unfinished, check_enabled, check_visit, user_of, same_user}
+use Rattle.tab_asks.specs.Visit.{tab_in, tab_with, check_tab, check_whole, check_unfinished, check_account, check_visit, user_of, same_user}
 use Rattle.hall_laws.specs.Ready.{IsReady, IsReadyAtOpening, done_for}
-use Rattle.hall_laws.proofs.Gates.{first_passed, test_failed, whole_is, is_whole, enabled_is, is_enabled, settled_done}
+use Rattle.hall_laws.proofs.Gates.{first_passed, test_failed, whole_is, is_whole, open_is, is_open, settled_done}
 use Rattle.hall_laws.proofs.TabStates.{opened_state}
 
 -- ---- the user whom a progress lets in
@@ -128,6 +128,7 @@ visit_ready facts setting root tab opening user is_opened h =
     let second = first_passed (check_unfinished known) _ tt first.1 in
     let is : ready_user (progress_of facts setting.moment known) ≡ Some user = sym (tab_done facts setting known) ∙ went.done in
     let lets = lets_in facts tab (who_of setting.moment state) (realm_of opening.version facts) user is in
+    let opened = open_is facts setting.moment user (subst (λ (w : Option UserId). check_account facts setting.moment w ≡ Ok tt) lets.is_theirs second.1) in
     record {
       opening = opening;
       is_opened = is_opened;
@@ -136,7 +137,8 @@ visit_ready facts setting root tab opening user is_opened h =
       is_unfinished = test_failed state.completed refusals.Finished second.0;
       is_whole = whole_is state.named (live_session setting.moment state) first.0;
       is_theirs = lets.is_theirs;
-      is_enabled = enabled_is facts user (subst (λ (w : Option UserId). check_enabled facts w ≡ Ok tt) lets.is_theirs second.1);
+      is_unlocked = opened.unlocked;
+      is_enabled = opened.enabled;
       holds = lets.holds;
     }
 
@@ -161,8 +163,9 @@ unfolding check_visit check_whole
 may_go facts moment root tab opening user ready =
     let state = tab_state root tab facts in
     let whole : same_user state.named (user_of (live_session moment state)) ≡ Ok tt = is_whole state.named (live_session moment state) ready.is_whole in
-    let enabled = subst (λ (w : Option UserId). check_enabled facts w ≡ Ok tt) (sym ready.is_theirs) (is_enabled facts user ready.is_enabled) in
-    rw (whole, ready.is_unfinished) enabled
+    let theirs = is_open facts moment user (record { unlocked = ready.is_unlocked; enabled = ready.is_enabled }) in
+    let opened = subst (λ (w : Option UserId). check_account facts moment w ≡ Ok tt) (sym ready.is_theirs) theirs in
+    rw (whole, ready.is_unfinished) opened
 
 pub ready_visit : (facts : List Fact) (setting : Setting) (root : RootKey) (tab : TabKey) (opening : Opening) (user : UserId)
     → (tab_state root tab facts).opening ≡ Some opening → IsReady facts setting.moment root tab user

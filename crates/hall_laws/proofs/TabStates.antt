@@ -1,6 +1,7 @@
 -- What is known of a tab behind more facts.
-use Rattle.std.proofs.Common.{◌≡◌, ℕ, true, List, [], ◌∷◌, ◌++◌, Some, None, refl, sym, ap, ◌∙◌}
+use Rattle.std.proofs.Common.{◌≡◌, ℕ, true, false, List, [], ◌∷◌, ◌++◌, Some, None, refl, sym, ap, ◌∙◌}
 use Rattle.std.specs.Prelude.{Option, fold}
+use Rattle.std.specs.List.{list_any}
 use Rattle.std.specs.Option.{option_or}
 use Rattle.std.proofs.lemmas.Bool.{eq-eqb}
 use Rattle.login_base.specs.IdText.{same_id}
@@ -12,10 +13,9 @@ use Rattle.asks.specs.declared.ask.Form.{Form}
 use Rattle.asks.specs.declared.ask.Form.TheVariants as forms
 use Rattle.facts.specs.declared.fact.Fact.{Fact}
 use Rattle.facts.specs.declared.tabs.TabState.{TabState}
-use Rattle.facts.specs.Accounts.{disabled_by, is_disabled}
-use Rattle.facts.specs.Places.{last_of}
+use Rattle.account_states.specs.States.{state_of, moves_state}
+use Rattle.account_states.proofs.StateLemmas.{state_kept}
 use Rattle.facts.specs.Tabs.{tab_state, tab_after}
-use Rattle.facts.proofs.PlacesLemmas.{last_of_append}
 use Rattle.facts.proofs.TabLemmas.{tab_state_more}
 use Rattle.hall_answers.specs.Setting.{Setting}
 use Rattle.tab_asks.specs.declared.passing.Passing.{Passing}
@@ -67,21 +67,18 @@ evidence_state root old passing (forms.ConfigureOtp value) = more_state root pas
 evidence_state root old passing forms.RecoveryCodes = more_state root passing.tab old []
 evidence_state root old passing forms.VerifyEmail = more_state root passing.tab old []
 
--- evidence neither disables nor enables a user
-none_disabled : (passing : Passing) (form : Form) (user : UserId) → last_of (disabled_by user) (evidence_of passing form) ≡ None
-none_disabled passing (forms.Username execution name) user = refl
-none_disabled passing (forms.NamePassword execution name password) user = refl
-none_disabled passing (forms.Password execution password) user = refl
-none_disabled passing (forms.Value execution value) user = refl
-none_disabled passing forms.Terms user = refl
-none_disabled passing (forms.UpdatePassword password) user = refl
-none_disabled passing (forms.ConfigureOtp value) user = refl
-none_disabled passing forms.RecoveryCodes user = refl
-none_disabled passing forms.VerifyEmail user = refl
+-- evidence changes nothing of how an account stands
+unmoved : (passing : Passing) (form : Form) (user : UserId) → list_any (moves_state user) (evidence_of passing form) ≡ false
+unmoved passing (forms.Username execution name) user = refl
+unmoved passing (forms.NamePassword execution name password) user = refl
+unmoved passing (forms.Password execution password) user = refl
+unmoved passing (forms.Value execution value) user = refl
+unmoved passing forms.Terms user = refl
+unmoved passing (forms.UpdatePassword password) user = refl
+unmoved passing (forms.ConfigureOtp value) user = refl
+unmoved passing forms.RecoveryCodes user = refl
+unmoved passing forms.VerifyEmail user = refl
 
-pub disabled_kept : (old : List Fact) (passing : Passing) (form : Form) (user : UserId) → is_disabled user (old ++ evidence_of passing form) ≡ is_disabled user old
-unfolding is_disabled
-disabled_kept old passing form user =
-    let e = last_of_append (disabled_by user) old (evidence_of passing form) in
-    let n = none_disabled passing form user in
-    rw (e, n) refl
+pub account_kept : (old : List Fact) (passing : Passing) (form : Form) (user : UserId)
+    → state_of user (old ++ evidence_of passing form) ≡ state_of user old
+account_kept old passing form user = state_kept user old (evidence_of passing form) (unmoved passing form user)

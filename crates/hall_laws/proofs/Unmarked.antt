@@ -27,7 +27,8 @@ unmarked_allows = record {
   session = λ session root user moment idle most. refl;
   completed = λ tab user session moment. refl;
   opened = λ root tab version level life moment. refl;
-  failed = λ user moment. refl;
+  enabled = λ user. refl;
+  disabled = λ user. refl;
   realm_put = λ version realm. refl;
   user_put = λ user name roles. refl;
   secret_set = λ user kind serial secret by. refl;
@@ -49,7 +50,7 @@ evidence_unmarked passing forms.VerifyEmail = All-nil IsUnmarked
 pub ask_counts : (setting : Setting) (ask : Ask) (finding : Finding) → HasCodesCounted setting.facts → HasCodesCounted (setting.facts ++ (due_ask setting ask finding).added)
 ask_counts setting ask finding counted =
     codes_kept setting.facts (due_ask setting ask finding).added
-    (ask_all IsUnmarked unmarked_allows setting ask finding (λ post accepted.
+    (ask_all IsUnmarked unmarked_allows setting ask finding (λ user opened. refl) (λ post accepted.
     let passing : Passing = record { tab = accepted.known.tab; user = accepted.user; credential = accepted.credential; moment = setting.moment } in
     evidence_unmarked passing post.form)) counted
 

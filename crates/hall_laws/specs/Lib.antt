@@ -1,4 +1,5 @@
 pub mod AskedEvidence
+pub mod Closing
 pub mod Ready
 pub mod Repeats
 pub mod TabHistory

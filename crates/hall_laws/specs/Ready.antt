@@ -14,10 +14,12 @@ use Rattle.asks.specs.declared.reply.What.{What}
 use Rattle.asks.specs.declared.reply.What.TheVariants as whats
 use Rattle.facts.specs.declared.tabs.Opening.{Opening}
 use Rattle.facts.specs.declared.tabs.RootSession.{RootSession}
-use Rattle.facts.specs.Accounts.{is_disabled}
 use Rattle.facts.specs.Realms.{realm_of}
 use Rattle.facts.specs.Tabs.{tab_state, live_session, who_of}
+use Rattle.account_states.specs.States.{is_closed}
+use Rattle.account_states.specs.Standings.{standing_of}
 use Rattle.hall_answers.specs.Setting.{Setting}
+use Rattle.lockout.specs.Standing.{is_locked}
 use Rattle.login_progress.specs.declared.known_tab.KnownTab.{KnownTab}
 use Rattle.login_progress.specs.Progress.{progress_of, asked_in, truths_in}
 use Rattle.tab_asks.specs.declared.check.Check.TheVariants.{Fits}
@@ -40,8 +42,10 @@ pub record IsReady (facts : List Fact) (moment : ℕ) (root : RootKey) (tab : Ta
       → live_session moment (tab_state root tab facts) ≡ Some own → named ≡ own.user
   -- the login is this user's
   pub is_theirs : who_of moment (tab_state root tab facts) ≡ Some user
-  -- the user isn't disabled
-  pub is_enabled : is_disabled user facts ≡ false
+  -- the user's account isn't locked at the moment
+  pub is_unlocked : is_locked (standing_of user facts) moment ≡ false
+  -- nor closed, by an administrator or for good by its failures
+  pub is_enabled : is_closed user facts ≡ false
   -- the realm's flow holds over what is true in the tab for the user
   pub holds : flow_holds (truths_in facts tab (Some user) realm.flow) realm.flow ≡ true
 

@@ -1,6 +1,8 @@
 //! The laws of what the hall answers. Each function does nothing: its contract is a law.
 #![tactic(auto)]
 
+pub mod checks;
+pub mod closing;
 pub mod codes;
 pub mod evidence;
 pub mod ready;
@@ -8,6 +10,8 @@ pub mod repeats;
 pub mod starts;
 pub mod tab_history;
 
+pub use checks::check_counts_unless_refused;
+pub use closing::{closed_stays_closed, closed_through_a_history, locked_stays_locked};
 pub use codes::{ask_counts_codes, mark_counts_codes, start_counts_codes};
 pub use evidence::{only_posts_add_evidence, post_adds_asked_evidence};
 pub use ready::{open_completes, page_completes, post_completes};

@@ -1,5 +1,4 @@
 mod CauseLemmas
-mod FirstLemmas
 mod KnownLemmas
 mod LineLemmas
 mod MovedLemmas

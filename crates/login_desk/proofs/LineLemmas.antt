@@ -3,7 +3,7 @@ use Rattle.std.proofs.Common.{◌≡◌, ◌≢◌, ℕ, ◌+◌, ◌<◌, ◌�
 use Rattle.std.specs.Prelude.{nat_le, nat_lt}
 use Rattle.std.proofs.lemmas.List.{append-nil, length-append}
 use Rattle.std.proofs.lemmas.Bool.Decides.{nat_tests}
-use Rattle.script_lines.specs.Lines.{IsLine, line_limit, is_skipped, bad_head, parts_ask, line_ask}
+use Rattle.script_lines.specs.Lines.{IsLine, line_limit, is_skipped, bad_head, parts_line, script_line}
 use Rattle.login_desk.specs.Intake.{IsFront, with_byte}
 
 pub IsLine-push : (line : List ℕ) (b : ℕ) → IsLine line → b ≢ 10 → IsLine (line ++ b ∷ [])
@@ -55,6 +55,6 @@ within limit line kept long f true e h =
     rw (over, e) refl
 within limit line kept long f false e h = ap (λ l. cond (nat_lt limit (length l)) long (f l)) (front_is limit line kept h (grind (arith, nat_tests)))
 
-pub line_ask-front : (line kept : List ℕ) → IsFront line_limit line kept → line_ask line ≡ line_ask kept
-unfolding line_ask
-line_ask-front line kept h = within line_limit line kept bad_head parts_ask (nat_lt line_limit (length kept)) refl h
+pub script_line-front : (line kept : List ℕ) → IsFront line_limit line kept → script_line line ≡ script_line kept
+unfolding script_line
+script_line-front line kept h = within line_limit line kept bad_head parts_line (nat_lt line_limit (length kept)) refl h

@@ -6,17 +6,12 @@ use Rattle.std.proofs.lemmas.Bool.{ne_eqb}
 use Rattle.std.proofs.lemmas.Grind.{flat_map-append}
 use Rattle.std.proofs.lemmas.List.{append-nil, length-append}
 use Rattle.std.proofs.lemmas.List.Sums.{fold-append}
-use Rattle.facts.specs.declared.entry.Entry.{Entry}
 use Rattle.facts.specs.declared.fact.Fact.{Fact}
-use Rattle.facts.specs.Realms.{has_realm, last_version}
+use Rattle.facts.specs.Realms.{last_version}
 use Rattle.facts.specs.Serials.{last_tab_serial, last_stored_serial}
 use Rattle.hall_answers.specs.HasSerials.{HasSerials}
 use Rattle.login_base.specs.Outside.{before_known, after_known}
-use Rattle.login_hall.specs.Found.{solved_of}
-use Rattle.login_hall.specs.Growth.{chronicle_of, last_moment}
-use Rattle.login_hall.specs.HallState.{HallState, facts_of}
-use Rattle.login_hall.specs.Legal.{entry_due}
-use Rattle.script_lines.specs.declared.lines.LineAsk.{LineAsk}
+use Rattle.login_hall.specs.Growth.{chronicle_of}
 use Rattle.login_desk.specs.declared.turn.Turn.{Turn}
 use Rattle.login_desk.specs.declared.turn.Turn.TheVariants as turns
 use Rattle.login_desk.specs.Going.{Going}
@@ -25,10 +20,10 @@ use Rattle.script_lines.specs.Lines.{lines, whole_lines, IsLine, line_limit, wit
 use Rattle.login_desk.specs.Outcome.{IsAnswered, IsStopped, IsOverlong, IsStarved, IsCutOff, PlayEnds, end_of}
 use Rattle.login_desk.specs.Outcome.IsReplyDue.{Whole, Ended}
 use Rattle.login_desk.specs.Outside.{SourceState, OutsideState, IsUnread}
-use Rattle.login_desk.specs.Play.{Play, entry_of_line, with_entry, with_line, play, play_text}
-use Rattle.login_desk.specs.Turn.{Answers, TurnEnds, WritesFront, line_play}
+use Rattle.script_play.specs.Play.{PlayState, Play, Brings, facts_in, state_of, after, nothing, script_line_brings, line_brings, with_line, play, play_text}
+use Rattle.login_desk.specs.Turn.{Answers, TurnEnds, WritesFront}
 use Rattle.login_desk.proofs.KnownLemmas.{before_known-nil, after_known-nil, after_known-append, one_more}
-use Rattle.login_desk.proofs.LineLemmas.{is_skipped-front, line_ask-front}
+use Rattle.login_desk.proofs.LineLemmas.{is_skipped-front, script_line-front}
 
 -- ---- lines of bytes
 
@@ -88,54 +83,44 @@ play-push : (base : List Fact) (done : List (List ℕ)) (line : List ℕ) → pl
 unfolding play
 play-push base done line = fold-append (with_line base) _ done (line ∷ [])
 
--- what a line adds to a play is the play of the line after its journal
-module _ (before : Play) (entry : Entry) where
-  abbrev after_journal : Play
-  after_journal = record { journal = before.journal; text = []; begun = [] }
-
-  text-with : (skipped : Bool) → (cond skipped before (with_entry before entry)).text ≡ before.text ++ (cond skipped after_journal (with_entry after_journal entry)).text
-  text-with true = sym (append-nil before.text)
-  text-with false = refl
-
-  journal-with : (skipped : Bool) → (cond skipped before (with_entry before entry)).journal ≡ (cond skipped after_journal (with_entry after_journal entry)).journal
-  journal-with true = refl
-  journal-with false = refl
-
-text-with_line : (base : List Fact) (before : Play) (line : List ℕ) → (with_line base before line).text ≡ before.text ++ (line_play base before.journal line).text
-text-with_line base before line = text-with before (entry_of_line base before.journal line) (is_skipped line)
-
-journal-with_line : (base : List Fact) (before : Play) (line : List ℕ) → (with_line base before line).journal ≡ (line_play base before.journal line).journal
-journal-with_line base before line = journal-with before (entry_of_line base before.journal line) (is_skipped line)
+-- a line that asks nothing leaves the play as it is
+pub skipped_turn : (player : PlayState) (line : List ℕ) (written : Option (List ℕ)) → is_skipped line ≡ true
+    → Answers player player line × (written ≡ after_known written (line_brings player line).text)
+unfolding line_brings
+skipped_turn player line written h =
+    let none : line_brings player line ≡ nothing player = rw h refl in
+    let same : player ≡ after player (nothing player) = λ i. record { base = player.base; journal = sym (append-nil player.journal) i; begun = player.begun } in (
+      record {
+        goes_on = same ∙ ap (after player) (sym none);
+        raises = record { tabs = omega arith; stored = omega arith; version = omega arith };
+      },
+      after_known-nil written ∙ ap (λ (b : Brings). after_known written b.text) (sym none),
+    )
 
 -- what is kept of a line stands for the line
-module _ (base : List Fact) (journal : List Entry) (line kept : List ℕ) (h : IsFront line_limit line kept) where
-  entry-front : entry_of_line base journal kept ≡ entry_of_line base journal line
-  entry-front = ap (λ (asks : LineAsk). entry_due base journal 0 asks.moment asks.draws (solved_of (chronicle_of base journal) (last_moment base journal) asks.ask asks.draws)) (sym (line_ask-front line kept h))
-
-  line_play-front : line_play base journal kept ≡ line_play base journal line
-  line_play-front =
-      let start : Play = record { journal = journal; text = []; begun = [] } in
-      λ i. cond (sym (is_skipped-front line kept h) i) start (with_entry start (entry-front i))
+brings-front : (now : PlayState) (line kept : List ℕ) → IsFront line_limit line kept → line_brings now kept ≡ line_brings now line
+unfolding line_brings
+brings-front now line kept h =
+    λ i. cond (sym (is_skipped-front line kept h) i) (nothing now) (script_line_brings now (sym (script_line-front line kept h) i))
 
 -- ---- between two lines
 
-facts-start : (hall : HallState) → hall.journal ≡ [] → facts_of hall ≡ hall.base
+facts-start : (player : PlayState) → player.journal ≡ [] → facts_in player ≡ player.base
 unfolding chronicle_of
-facts-start hall j = ap (chronicle_of hall.base) j ∙ append-nil hall.base
+facts-start player j = ap (chronicle_of player.base) j ∙ append-nil player.base
 
-pub starts : {S R : Type 0} (old : OutsideState S R) (held : Held) (hall : HallState) → held.pending ≡ [] → held.taken ≡ 0 → hall.journal ≡ [] → has_realm hall.base ≡ true → Going hall.base old old held hall
+pub starts : {S R : Type 0} (old : OutsideState S R) (held : Held) (player : PlayState) → held.pending ≡ [] → held.taken ≡ 0
+    → player.journal ≡ [] → player.begun ≡ [] → Going player.base old old held player
 unfolding play
-starts old held hall p t j r =
-    let facts = facts-start hall j in
+starts old held player p t j b =
+    let facts = facts-start player j in
     record {
       done = [];
       plain = tt;
       came = sym (before_known-nil old.script.left) ∙ ap (λ l. before_known l old.script.left) (sym p) ∙ sym (before_known-nil (rest held old.script.left));
       count = t;
       text = after_known-nil old.written;
-      over = refl;
-      journal = j;
-      realm = ap has_realm facts ∙ r;
+      over = λ i. record { base = player.base; journal = j i; begun = b i };
       tabs = omega (arith, ap last_tab_serial facts);
       stored = omega (arith, ap last_stored_serial facts);
       version = omega (arith, ap last_version facts);
@@ -145,30 +130,29 @@ starts old held hall p t j r =
       ends = refl;
     }
 
-module _ {S R : Type 0} (base : List Fact) (old now : OutsideState S R) (held : Held) (hall : HallState) (h : Going base old now held hall) where
+module _ {S R : Type 0} (base : List Fact) (old now : OutsideState S R) (held : Held) (player : PlayState) (h : Going base old now held player) where
   -- so few lines leave room for more serials
-  pub few_serials : HasSerials base (2 ^ 62) → held.taken ≤ 2 ^ 32 → HasSerials (facts_of hall) (2 ^ 63 - 8)
+  pub few_serials : HasSerials base (2 ^ 62) → held.taken ≤ 2 ^ 32 → HasSerials (facts_in player) (2 ^ 63 - 8)
   few_serials first le = record {
     tabs = omega (arith, first.tabs, h.tabs, h.count, length-unlines h.done);
     stored = omega (arith, first.stored, h.stored, h.count, length-unlines h.done);
     version = omega (arith, first.version, h.version, h.count, length-unlines h.done);
   }
 
-  same_play : (line kept : List ℕ) → IsFront line_limit line kept → line_play hall.base hall.journal kept ≡ line_play base (play base h.done).journal line
-  same_play line kept f = line_play-front hall.base hall.journal line kept f ∙ ap (λ b. line_play b hall.journal line) h.over ∙ ap (λ j. line_play base j line) h.journal
+  same_brings : (line kept : List ℕ) → IsFront line_limit line kept → line_brings player kept ≡ line_brings (state_of base (play base h.done)) line
+  same_brings line kept f = brings-front player line kept f ∙ ap (λ p. line_brings p line) h.over
 
-  text-push : (line kept : List ℕ) → IsFront line_limit line kept → play_text base h.done ++ (line_play hall.base hall.journal kept).text ≡ play_text base (h.done ++ line ∷ [])
+  text-push : (line kept : List ℕ) → IsFront line_limit line kept → play_text base h.done ++ (line_brings player kept).text ≡ play_text base (h.done ++ line ∷ [])
   text-push line kept f =
-      ap (λ (p : Play). play_text base h.done ++ p.text) (same_play line kept f)
-      ∙ sym (text-with_line base (play base h.done) line)
+      ap (λ (b : Brings). play_text base h.done ++ b.text) (same_brings line kept f)
       ∙ ap (λ (p : Play). p.text) (sym (play-push base h.done line))
 
-  told : (written : Option (List ℕ)) (line kept : List ℕ) → IsFront line_limit line kept → written ≡ after_known now.written (line_play hall.base hall.journal kept).text → written ≡ after_known old.written (play_text base (h.done ++ line ∷ []))
+  told : (written : Option (List ℕ)) (line kept : List ℕ) → IsFront line_limit line kept → written ≡ after_known now.written (line_brings player kept).text → written ≡ after_known old.written (play_text base (h.done ++ line ∷ []))
   told written line kept f e =
-      e ∙ ap (λ x. after_known x (line_play hall.base hall.journal kept).text) h.text
-      ∙ after_known-append old.written (play_text base h.done) (line_play hall.base hall.journal kept).text ∙ ap (after_known old.written) (text-push line kept f)
+      e ∙ ap (λ x. after_known x (line_brings player kept).text) h.text
+      ∙ after_known-append old.written (play_text base h.done) (line_brings player kept).text ∙ ap (after_known old.written) (text-push line kept f)
 
-  front : (written : Option (List ℕ)) (line kept : List ℕ) → IsFront line_limit line kept → WritesFront now.written written (line_play hall.base hall.journal kept).text → WritesFront old.written written (play_text base (h.done ++ line ∷ []))
+  front : (written : Option (List ℕ)) (line kept : List ℕ) → IsFront line_limit line kept → WritesFront now.written written (line_brings player kept).text → WritesFront old.written written (play_text base (h.done ++ line ∷ []))
   front written line kept f w = record {
     front = play_text base h.done ++ w.front;
     unwritten = w.unwritten;
@@ -226,14 +210,14 @@ module _ {S R : Type 0} (base : List Fact) (old now : OutsideState S R) (held : 
           one_more old.script.left (rest held now.script.left) (rest next new.script.left) (unlines h.done) (with_newline t.line) h.came t.came
           ∙ ap (λ l. before_known l (rest next new.script.left)) (sym (unlines-push h.done t.line))
 
-      pub cut : WritesFront mid.written new.written (line_play hall.base hall.journal kept).text → IsCutOff base old new
+      pub cut : WritesFront mid.written new.written (line_brings player kept).text → IsCutOff base old new
       cut w = record {
         due = play_text base (h.done ++ t.line ∷ []);
         is_due = Whole (unlines (h.done ++ t.line ∷ [])) (rest next new.script.left) came_line (ap (play_text base) (sym (whole_lines-all (h.done ++ t.line ∷ []) (all-push h.done t.line h.plain t.plain))));
-        front = front new.written t.line kept t.front (subst (λ x. WritesFront x new.written (line_play hall.base hall.journal kept).text) same w);
+        front = front new.written t.line kept t.front (subst (λ x. WritesFront x new.written (line_brings player kept).text) same w);
       }
 
-      pub goes_on : (grown : HallState) → Answers hall grown kept → new.written ≡ after_known mid.written (line_play hall.base hall.journal kept).text → now.script.faults ≤ mid.script.faults
+      pub goes_on : (grown : PlayState) → Answers player grown kept → new.written ≡ after_known mid.written (line_brings player kept).text → now.script.faults ≤ mid.script.faults
           → now.write_faults ≤ new.write_faults → mid.script.ends ≡ now.script.ends → mid.realm ≡ now.realm → Going base old new next grown
       goes_on grown a e reads puts ends realm =
           let pushed : length (h.done ++ t.line ∷ []) ≡ length h.done + 1 = length-append h.done (t.line ∷ []) in
@@ -242,15 +226,13 @@ module _ {S R : Type 0} (base : List Fact) (old now : OutsideState S R) (held : 
             plain = all-push h.done t.line h.plain t.plain;
             came = came_line;
             count = let e = ap length (unlines-push h.done t.line) in omega (arith, e, t.count, h.count, length-append (unlines h.done) (with_newline t.line), length-append t.line (10 ∷ []));
-            text = told new.written t.line kept t.front (e ∙ ap (λ x. after_known x (line_play hall.base hall.journal kept).text) same);
-            over = a.base ∙ h.over;
-            journal =
-                a.journal ∙ ap (λ (p : Play). p.journal) (same_play t.line kept t.front) ∙ sym (journal-with_line base (play base h.done) t.line)
-                ∙ ap (λ (p : Play). p.journal) (sym (play-push base h.done t.line));
-            realm = a.realm h.realm;
-            tabs = omega (arith, a.tabs, h.tabs, pushed);
-            stored = omega (arith, a.stored, h.stored, pushed);
-            version = omega (arith, a.version, h.version, pushed);
+            text = told new.written t.line kept t.front (e ∙ ap (λ x. after_known x (line_brings player kept).text) same);
+            over =
+                a.goes_on ∙ ap (after player) (same_brings t.line kept t.front) ∙ ap (λ p. after p (line_brings (state_of base (play base h.done)) t.line)) h.over
+                ∙ ap (state_of base) (sym (play-push base h.done t.line));
+            tabs = omega (arith, a.raises.tabs, h.tabs, pushed);
+            stored = omega (arith, a.raises.stored, h.stored, pushed);
+            version = omega (arith, a.raises.version, h.version, pushed);
             unread = unread.realm ∙ realm ∙ h.unread;
             reads = let e = ap (λ (x : SourceState S). x.faults) unread.script in omega (arith, reads, h.reads, e);
             puts = omega (arith, puts, h.puts);
@@ -267,18 +249,18 @@ module _ {S R : Type 0} (base : List Fact) (old now : OutsideState S R) (held : 
       is_last : lines (unlines h.done ++ last.line) ≡ h.done ++ last.line ∷ []
       is_last = lines-with_last h.done last.line h.plain last.plain last.some
 
-      pub last_turn : (grown : HallState) (turn : Turn) → TurnEnds hall grown kept mid.written new.written turn → PlayEnds base old new (end_of turn)
+      pub last_turn : (grown : PlayState) (turn : Turn) → TurnEnds player grown kept mid.written new.written turn → PlayEnds base old new (end_of turn)
       last_turn grown turns.Told e = record {
         bytes = unlines h.done ++ last.line;
         taken = came_last;
         end = last.end;
         short = omega (arith, h.count, last.short, length-append (unlines h.done) last.line);
-        text = told new.written last.line kept last.front (e.1 ∙ ap (λ x. after_known x (line_play hall.base hall.journal kept).text) same) ∙ ap (λ l. after_known old.written (play_text base l)) (sym is_last);
+        text = told new.written last.line kept last.front (e.1 ∙ ap (λ x. after_known x (line_brings player kept).text) same) ∙ ap (λ l. after_known old.written (play_text base l)) (sym is_last);
       }
       last_turn grown turns.Failed w = record {
         due = play_text base (h.done ++ last.line ∷ []);
         is_due = Ended (unlines h.done ++ last.line) came_last last.end (ap (play_text base) (sym is_last));
-        front = front new.written last.line kept last.front (subst (λ x. WritesFront x new.written (line_play hall.base hall.journal kept).text) same w);
+        front = front new.written last.line kept last.front (subst (λ x. WritesFront x new.written (line_brings player kept).text) same w);
       }
       last_turn grown turns.Memory e = starved new (e ∙ same)
 

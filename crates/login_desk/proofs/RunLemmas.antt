@@ -19,7 +19,7 @@ use Rattle.script_lines.specs.Lines.{whole_lines}
 use Rattle.login_desk.specs.Outcome.{IsStopped, IsOverlong, read_line, script_line}
 use Rattle.login_desk.specs.Outcome.IsReplyDue.{Fault, Limit}
 use Rattle.login_desk.specs.Outside.{SourceState, OutsideState, IsUnread, IsUnwritten}
-use Rattle.login_desk.specs.Play.{play_text}
+use Rattle.script_play.specs.Play.{play_text}
 use Rattle.login_desk.specs.RealmGiven.{realm_given, realm_played, realm_for, refusal_line}
 use Rattle.login_desk.specs.Run.{LineMeans, LineEnds, ReplayMeans, BytesMean, CommandMeans}
 use Rattle.login_desk.specs.Run.LineMeans.{Told, Cut}

@@ -8,8 +8,8 @@ use Rattle.login_desk.specs.declared.realm_given.NoRealm.{NoRealm}
 use Rattle.realm_check.specs.Check.{check_line}
 use Rattle.login_desk.specs.Outcome.{IsAnswered, IsStopped, IsOverlong, IsStarved, IsCutOff, read_line, script_line}
 use Rattle.login_desk.specs.Outside.{OutsideState}
-use Rattle.login_desk.specs.Play.{base_of}
-use Rattle.login_desk.specs.RealmGiven.{realm_for, refusal_line, or_builtin}
+use Rattle.script_play.specs.Base.{or_builtin, base_of}
+use Rattle.login_desk.specs.RealmGiven.{realm_for, refusal_line}
 use Rattle.login_desk.specs.Run.{TakesRealm, TakesNoRealm, MeetsRealmFault, usage_line}
 use Rattle.login_desk.specs.Turn.{WritesFront}
 

@@ -4,7 +4,6 @@ pub mod Going
 pub mod Intake
 pub mod Outcome
 pub mod Outside
-pub mod Play
 pub mod RealmGiven
 pub mod Run
 pub mod Statuses

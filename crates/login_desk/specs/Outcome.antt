@@ -4,7 +4,7 @@ use Rattle.facts.specs.declared.fact.Fact.{Fact}
 use Rattle.login_base.specs.Outside.{before_known, after_known, IsAtEnd, Rose}
 use Rattle.script_lines.specs.Lines.{lines, whole_lines}
 use Rattle.login_desk.specs.Outside.{OutsideState}
-use Rattle.login_desk.specs.Play.{play_text}
+use Rattle.script_play.specs.Play.{play_text}
 use Rattle.login_desk.specs.Turn.{WritesFront}
 use Rattle.login_desk.specs.declared.play.End.{End}
 use Rattle.login_desk.specs.declared.play.End.TheVariants as ends

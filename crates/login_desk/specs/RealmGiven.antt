@@ -2,7 +2,6 @@
 use Rattle.std.specs.Prelude.{◌≡◌, ℕ, nat_lt, List, [], ◌∷◌, ◌++◌, length, Option, Some, None, Result, Ok, Err, codes, if◌then◌else◌}
 use Rattle.realm_data.specs.declared.realm_parts.RealmParts.{RealmParts}
 use Rattle.realm_data.specs.RealmBuilt.{is_built}
-use Rattle.realm_data.specs.RealmBuiltin.{builtin_realm}
 use Rattle.realm_fields.specs.declared.fault.RealmFault.{RealmFault}
 use Rattle.realm_fields.specs.declared.fault.RealmFault.TheVariants.{OutOfRange}
 use Rattle.realm_file.specs.FaultWords.{fault_words}
@@ -41,11 +40,6 @@ realm_played (Err refusal) = Err refusal
 unfoldable pub realm_for : Command → List ℕ → Result (Option RealmParts) NoRealm
 realm_for commands.Check bytes = realm_given bytes
 realm_for commands.Replay bytes = realm_played (realm_given bytes)
-
--- the given realm, or the built-in one
-abbrev pub or_builtin : Option RealmParts → RealmParts
-or_builtin None = builtin_realm
-or_builtin (Some realm) = realm
 
 -- ---- the line on it
 

@@ -11,8 +11,8 @@ use Rattle.login_desk.specs.declared.status.Outcome.TheVariants as outcomes
 use Rattle.realm_check.specs.Check.{check_line}
 use Rattle.login_desk.specs.Outcome.{IsAnswered, IsStopped, IsOverlong, IsStarved, IsCutOff, read_line, script_line}
 use Rattle.login_desk.specs.Outside.{OutsideState, IsUnread}
-use Rattle.login_desk.specs.Play.{base_of}
-use Rattle.login_desk.specs.RealmGiven.{realm_for, refusal_line, or_builtin}
+use Rattle.script_play.specs.Base.{or_builtin, base_of}
+use Rattle.login_desk.specs.RealmGiven.{realm_for, refusal_line}
 use Rattle.login_desk.specs.Turn.{WritesFront}
 use Rattle.login_desk.specs.Whole.{whole_limit}
 

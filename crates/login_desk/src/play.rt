@@ -1,17 +1,16 @@
-ghost use Rattle.std.specs.Prelude.{◌≡◌, ◌<◌, ◌≤◌, ◌+◌, ◌^◌, [], true, IfOk, OnOk};
-ghost use Rattle.facts.specs.Realms.{has_realm};
+ghost use Rattle.std.specs.Prelude.{◌≡◌, ◌<◌, ◌≤◌, ◌+◌, ◌^◌, []};
 ghost use Rattle.hall_answers.specs.HasSerials.{HasSerials};
 ghost use Rattle.login_base.specs.Outside.{Rose, counted};
 ghost use Rattle.login_hall.specs.Start.{IsPlayable};
 ghost use Rattle.login_desk.specs.Outcome.{PlayEnds, end_of};
-ghost use Rattle.login_desk.specs.Play.{base_of};
+ghost use Rattle.script_play.specs.Base.{base_of};
 
 use crate::intake::{Intake, Next, SCRIPT_LIMIT};
 use crate::outside::Outside;
 use crate::turn::{Turn, answer_line};
-use login_base::{Memory, Sink, Source, Steps};
-use login_hall::Hall;
+use login_base::{Sink, Source, Steps};
 use realm_data::Realm;
+use script_play::Player;
 use std::alloc::Global;
 use std::sync::ledger::Ledger;
 
@@ -42,17 +41,17 @@ fn end_of(turn: Turn) -> End
 /// Answers the lines of a script, one after the other.
 fn play_lines<L: Ledger, S: Source, R: Source, W: Sink>(
     alloc: Global,
-    hall: &mut Hall,
+    player: &mut Player,
     intake: &mut Intake,
     outside: &mut Outside<S, R, W>,
     steps: &mut Steps<L>,
 ) -> End
-    requires journal { hall.old.journal ≡ [] }
-    requires realm { has_realm hall.old.base ≡ true }
-    requires serials { HasSerials hall.old.base (2 ^ 62) }
+    requires journal { player.old.journal ≡ [] }
+    requires begun { player.old.begun ≡ [] }
+    requires serials { HasSerials player.old.base (2 ^ 62) }
     requires pending { intake.old.pending ≡ [] }
     requires taken { intake.old.taken ≡ 0 }
-    ensures play { PlayEnds hall.old.base outside.old outside.new result }
+    ensures play { PlayEnds player.old.base outside.old outside.new result }
     ensures end { result ≡ End.Done → outside.new.script.ends ≡ counted outside.old.script.ends }
     ensures read_cause { result ≡ End.ReadFailed → Rose outside.old.script.faults outside.new.script.faults }
     ensures put_cause { result ≡ End.PutFailed → Rose outside.old.write_faults outside.new.write_faults }
@@ -61,13 +60,13 @@ fn play_lines<L: Ledger, S: Source, R: Source, W: Sink>(
 {
     for _ in 0..SCRIPT_LIMIT + 1 {
         match outside.next_line(alloc, intake) {
-            Next::Line(line) => match answer_line(alloc, hall, line.as_slice(), outside, steps) {
+            Next::Line(line) => match answer_line(player, line.as_slice(), outside, steps) {
                 Turn::Told => {}
                 Turn::Failed => return End::PutFailed,
                 Turn::Memory => return End::Memory,
             },
             Next::Last(line) => {
-                return end_of(answer_line(alloc, hall, line.as_slice(), outside, steps));
+                return end_of(answer_line(player, line.as_slice(), outside, steps));
             }
             Next::End => return End::Done,
             Next::Failed => return End::ReadFailed,
@@ -78,21 +77,7 @@ fn play_lines<L: Ledger, S: Source, R: Source, W: Sink>(
     End::TooLong
 }
 
-/// A new hall, which has started with the given realm, or with the built-in one.
-fn start_hall(alloc: Global, given: Option<Realm>) -> Result<Hall, Memory>
-    requires playable { IsPlayable given }
-    ensures base { IfOk result (λ hall. hall.base ≡ base_of given) }
-    ensures journal { IfOk result (λ hall. hall.journal ≡ []) }
-    ensures realm { OnOk result (has_realm (base_of given) ≡ true) }
-    ensures serials { OnOk result (HasSerials (base_of given) (2 ^ 62)) }
-{
-    let mut hall = Hall::make(alloc)?;
-    let start = hall.start(given)?;
-    hall.started(start);
-    Ok(hall)
-}
-
-/// Plays a script over a new hall with the given realm, or with the built-in one.
+/// Plays a script over a hall with the given realm, or with the built-in one.
 pub fn play_script<L: Ledger, S: Source, R: Source, W: Sink>(
     alloc: Global,
     given: Option<Realm>,
@@ -107,11 +92,11 @@ pub fn play_script<L: Ledger, S: Source, R: Source, W: Sink>(
     ensures puts { outside.old.write_faults ≤ outside.new.write_faults }
     ensures realm { outside.new.realm ≡ outside.old.realm }
 {
-    let Ok(mut hall) = start_hall(alloc, given) else {
+    let Ok(mut player) = Player::start(alloc, given) else {
         return End::Memory;
     };
     let Ok(mut intake) = Intake::make(alloc, BUFFER) else {
         return End::Memory;
     };
-    play_lines(alloc, &mut hall, &mut intake, outside, steps)
+    play_lines(alloc, &mut player, &mut intake, outside, steps)
 }

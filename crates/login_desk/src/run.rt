@@ -5,8 +5,8 @@ ghost use Rattle.login_desk.specs.Causes.{IsReplayed, IsChecked, IsRefused, IsUn
 ghost use Rattle.realm_check.specs.Check.{check_line};
 ghost use Rattle.login_desk.specs.Command.{command_of};
 ghost use Rattle.login_desk.specs.Outside.{IsUnread, IsFaultless};
-ghost use Rattle.login_desk.specs.Play.{base_of};
-ghost use Rattle.login_desk.specs.RealmGiven.{or_builtin, refusal_line};
+ghost use Rattle.script_play.specs.Base.{or_builtin, base_of};
+ghost use Rattle.login_desk.specs.RealmGiven.{refusal_line};
 ghost use Rattle.login_desk.specs.Run.{RunMeans, CommandMeans, BytesMean, WorkMeans, ReplayMeans, CheckMeans, LineMeans, LineEnds, is_status, usage_line};
 ghost use Rattle.login_desk.specs.Statuses.{number_of};
 

@@ -2,7 +2,7 @@
 ghost use Rattle.login_base.specs.Steps.{IsBlank};
 
 use crate::due::due;
-use crate::sample_asks::{DRAWS, Filled, Line, MOMENT, ask_of, id};
+use crate::sample_asks::{DRAWS, Line, MOMENT, ask_of, id};
 use crate::sample_hall::OPEN;
 use crate::sample_lines::{add_facts, spelled};
 use crate::sample_realms::{FEW, realm_of};
@@ -128,14 +128,14 @@ const SPLIT: [MadeTab; 6] = [
     ),
     (
         &[Made::Named(1), Made::Session(3)],
-        Line::Post(1, Filled::Both("form", "ann", ""), 9),
+        Line::Post(1, ("form", "ann", ""), 9),
         Some(2),
         "refused 9 Stale current=[3]\n",
     ),
     // The user of the tab is told, and not the one whom the post names.
     (
         &[Made::Named(1), Made::Session(3)],
-        Line::Post(1, Filled::Both("form", "cid", ""), 3),
+        Line::Post(1, ("form", "cid", ""), 3),
         Some(0),
         "refused 10 OtherUser tab=ann session=zoe\n",
     ),
@@ -143,7 +143,7 @@ const SPLIT: [MadeTab; 6] = [
     // password than the one that was checked.
     (
         &[Made::Named(1), Made::Completed(1), Made::Session(4)],
-        Line::Post(1, Filled::Both("other", "bob", ""), 3),
+        Line::Post(1, ("other", "bob", ""), 3),
         Some(9),
         "refused 10 OtherUser tab=ann session=bob\n",
     ),
@@ -159,14 +159,14 @@ const WHOLE: [MadeTab; 3] = [
     // The password was checked against another one than bob's.
     (
         &[],
-        Line::Post(1, Filled::Both("form", "bob", ""), 3),
+        Line::Post(1, ("form", "bob", ""), 3),
         Some(9),
         "refused 14 Disabled\n",
     ),
     // The session is live in the root already.
     (
         &[Made::Session(1)],
-        Line::Post(1, Filled::Both("form", "ann", ""), 3),
+        Line::Post(1, ("form", "ann", ""), 3),
         Some(2),
         "done session=[7] user=ann level=0
 tab 2 named

@@ -10,8 +10,6 @@ mod due_tests;
 mod found;
 mod hall;
 #[cfg(test)]
-mod late_tests;
-#[cfg(test)]
 mod order_tests;
 mod proposal;
 #[cfg(test)]

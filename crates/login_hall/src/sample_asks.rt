@@ -11,14 +11,8 @@ pub(crate) const DRAWS: Draws = Draws([0; 10]);
 /// The moment of an ask, in milliseconds.
 pub(crate) const MOMENT: u64 = 1_000;
 
-/// A form of an execution.
-#[derive(Clone, Copy)]
-pub(crate) enum Filled {
-    Name(&'static str, &'static str),
-    Password(&'static str, &'static str),
-    /// A name and a password.
-    Both(&'static str, &'static str, &'static str),
-}
+/// A form: its execution, a name and a password.
+pub(crate) type Filled = (&'static str, &'static str, &'static str);
 
 /// An ask. Pages and posts are those of the tab 2.
 #[derive(Clone, Copy)]
@@ -96,20 +90,11 @@ fn adding_with_action(alloc: Global, key: Option<u8>, name: &str) -> Result<Ask,
 }
 
 fn form_of(alloc: Global, filled: Filled) -> Result<Form, Fail> {
-    Ok(match filled {
-        Filled::Name(execution, name) => Form::Username {
-            execution: name_of(alloc, execution)?,
-            name: name_of(alloc, name)?,
-        },
-        Filled::Password(execution, password) => Form::Password {
-            execution: name_of(alloc, execution)?,
-            password: text_of(alloc, password)?,
-        },
-        Filled::Both(execution, name, password) => Form::NamePassword {
-            execution: name_of(alloc, execution)?,
-            name: name_of(alloc, name)?,
-            password: text_of(alloc, password)?,
-        },
+    let (execution, name, password) = filled;
+    Ok(Form::NamePassword {
+        execution: name_of(alloc, execution)?,
+        name: name_of(alloc, name)?,
+        password: text_of(alloc, password)?,
     })
 }
 

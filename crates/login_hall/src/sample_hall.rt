@@ -1,10 +1,10 @@
-//! Halls whose asks come in an order that no script has.
+//! Halls with asks that no script has.
 ghost use Rattle.std.specs.Prelude.{◌≡◌, true, OnOk, IfOk};
 ghost use Rattle.facts.specs.Realms.{has_realm};
 ghost use Rattle.login_base.specs.Steps.{IsBlank};
 ghost use Rattle.login_hall.specs.HallState.{facts_of};
 
-use crate::sample_asks::{DRAWS, Filled, Line, MOMENT, ask_of};
+use crate::sample_asks::{DRAWS, Line, MOMENT, ask_of};
 use crate::sample_lines::{add_facts, spelled};
 use crate::sample_realms::{Given, realm_of};
 use crate::{Begun, Hall};
@@ -17,14 +17,11 @@ use std::process::Abort;
 use std::sync::ledger::{Blank, Ledger};
 use std::test::Fail;
 
-/// An ask that is hashed while others come: the realm, the asks before its beginning, itself, the
-/// asks before its answer, and what is answered to it and then to the same ask once more.
-pub(crate) type LateAsk = (Given, &'static [Line], Line, &'static [Line], &'static str);
+/// An ask that no script has: the realm, the asks before it, itself, and what is answered to it and
+/// then to the same ask once more.
+pub(crate) type Asked = (Given, &'static [Line], Line, &'static str);
 
 pub(crate) const OPEN: Line = Line::Open("app", None, None);
-
-/// The code of the first page is the third serial.
-pub(crate) const POST: Line = Line::Post(1, Filled::Both("form", "ann", "pw1"), 3);
 
 pub(crate) const ANN: Line = Line::Add("ann", Some("pw1"));
 
@@ -108,43 +105,41 @@ fn enter_all<L: Ledger>(
     Ok(())
 }
 
-/// What a late ask is answered, and then the same ask once more.
-fn late<L: Ledger>(
+/// What an ask is answered, and then the same ask once more.
+fn asked_twice<L: Ledger>(
     alloc: Global,
     realm: Realm,
-    case: LateAsk,
+    case: Asked,
     blank: Blank,
 ) -> Result<Vec<u8>, Fail>
     requires blank { IsBlank blank L.name L.parts }
 {
-    let (_, before, line, between, _) = case;
+    let (_, before, line, _) = case;
     let mut steps = Steps::<L>::new(blank);
     let mut hall = started_hall(alloc, realm)?;
     enter_all(alloc, &mut hall, before, &mut steps)?;
-    let solved = begun_line(alloc, &hall, line)?;
-    enter_all(alloc, &mut hall, between, &mut steps)?;
-    let mut text = ended(alloc, &mut hall, solved, &mut steps)?;
+    let mut text = entered(alloc, &mut hall, line, &mut steps)?;
     let mut again = entered(alloc, &mut hall, line, &mut steps)?;
     text.append(&mut again)?;
     Ok(text)
 }
 
-fn is_answered(rt: &impl Abort, alloc: Global, case: LateAsk, text: &str) -> Result<(), Fail> {
-    let (given, _, _, _, _) = case;
+fn is_answered(rt: &impl Abort, alloc: Global, case: Asked, text: &str) -> Result<(), Fail> {
+    let (given, _, _, _) = case;
     let realm = realm_of(alloc, given)?;
-    let answered = late::<Brand>(alloc, realm, case, Blank::new(1))?;
+    let answered = asked_twice::<Brand>(alloc, realm, case, Blank::new(1))?;
     assert_eq!(rt; answered.as_slice(), spelled(alloc, text)?.as_bytes());
     Ok(())
 }
 
-pub(crate) fn is_answered_late(rt: &impl Abort, alloc: Global, case: LateAsk) -> Result<(), Fail> {
-    let (_, _, _, _, text) = case;
+pub(crate) fn is_answered_twice(rt: &impl Abort, alloc: Global, case: Asked) -> Result<(), Fail> {
+    let (_, _, _, text) = case;
     is_answered(rt, alloc, case, text)
 }
 
 /// The ask is refused and adds nothing, so that the same ask is refused so again.
-pub(crate) fn is_refused_late(rt: &impl Abort, alloc: Global, case: LateAsk) -> Result<(), Fail> {
-    let (_, _, _, _, refusal) = case;
+pub(crate) fn is_refused_twice(rt: &impl Abort, alloc: Global, case: Asked) -> Result<(), Fail> {
+    let (_, _, _, refusal) = case;
     let text = format!(in alloc; "refused {refusal}\nrefused {refusal}\n")?;
     is_answered(rt, alloc, case, &text)
 }

@@ -3,15 +3,18 @@ use Rattle.std.specs.Prelude.{ℕ, List, [], Option, Some, None, ok_or, Result, 
 use Rattle.std.specs.Result.{result_ok}
 use Rattle.std.specs.Str.{bytes_eq}
 use Rattle.realm_data.specs.declared.realm_parts.RealmParts.{RealmParts}
+use Rattle.asks.specs.declared.admin.AdminVerb.{AdminVerb}
 use Rattle.asks.specs.declared.admin.AdminVerb.TheVariants as verbs
 use Rattle.asks.specs.declared.ask.Access.TheVariants as accesses
 use Rattle.asks.specs.declared.ask.Ask.{Ask}
 use Rattle.asks.specs.declared.ask.Ask.TheVariants as asks
 use Rattle.realm_file.specs.RealmFile.{realm_read}
+use Rattle.script_lines.specs.declared.account_verb.AccountVerb.{AccountVerb}
+use Rattle.script_lines.specs.declared.account_verb.AccountVerb.TheVariants as kinds
 use Rattle.script_lines.specs.declared.pairs.Pair.{Pair}
 use Rattle.script_lines.specs.declared.place.Place.{Place}
 use Rattle.script_lines.specs.declared.place.Place.TheVariants as places
-use Rattle.script_lines.specs.Credentials.{has_replacement, exact_name, user_name, optional_password}
+use Rattle.script_lines.specs.Credentials.{has_replacement, exact_name, user_name, password_text, optional_password}
 use Rattle.script_lines.specs.Keys.{root_given, id_given}
 use Rattle.script_lines.specs.Pairs.{value_of}
 use Rattle.script_lines.specs.Places.{◌>>=◌, place_text, ask_or_bad, absent}
@@ -56,6 +59,27 @@ abbrev pub realm_put_ask : Option (List ℕ) → Ask
 realm_put_ask (Some text) = if has_replacement text then asks.Bad (codes "text") else asks.Admin accesses.Local (verbs.RealmPut (realm_in text))
 realm_put_ask None = asks.Bad (codes "text")
 
+-- ---- set-password
+
+-- a new password for the account of a name
+unfoldable pub set_password : Option (List ℕ) → Option (List ℕ) → Result Ask Place
+set_password name password = do
+  name ← ok_or name places.Name
+  password ← ok_or password places.Password
+  Ok (asks.Admin accesses.Local (verbs.SetPassword name password))
+
+-- ---- enable, disable, unlock
+
+-- what is asked of the account of this name
+abbrev pub of_account : AccountVerb → List ℕ → AdminVerb
+of_account kinds.Enable name = verbs.Enable name
+of_account kinds.Disable name = verbs.Disable name
+of_account kinds.Unlock name = verbs.Unlock name
+
+abbrev pub account_ask : AccountVerb → Option (List ℕ) → Ask
+account_ask verb (Some name) = asks.Admin accesses.Local (of_account verb name)
+account_ask verb None = asks.Bad (codes "name")
+
 -- ---- page
 
 -- the page of a tab
@@ -67,12 +91,22 @@ page pairs = do
 
 -- ---- verbs
 
+-- the ask of an administrator's verb and its pairs, or the first place that is malformed
+unfoldable pub admin_ask : List ℕ → List Pair → Ask
+admin_ask verb pairs =
+    let name = user_name (value_of (codes "name") pairs) in
+    if bytes_eq verb (codes "user-add") then user_add_ask name pairs
+    else if bytes_eq verb (codes "realm-put") then realm_put_ask (value_of (codes "text") pairs)
+    else if bytes_eq verb (codes "set-password") then ask_or_bad (set_password name (password_text (value_of (codes "password") pairs)))
+    else if bytes_eq verb (codes "enable") then account_ask kinds.Enable name
+    else if bytes_eq verb (codes "disable") then account_ask kinds.Disable name
+    else if bytes_eq verb (codes "unlock") then account_ask kinds.Unlock name
+    else asks.Bad (codes "verb")
+
 -- the ask of a verb and its pairs, or the first place, in the order in which they are named here, that is malformed
 unfoldable pub verb_ask : List ℕ → List Pair → Ask
 verb_ask verb pairs =
     if bytes_eq verb (codes "open") then ask_or_bad (new_tab (exact_name (value_of (codes "client") pairs)) pairs)
-    else if bytes_eq verb (codes "user-add") then user_add_ask (user_name (value_of (codes "name") pairs)) pairs
-    else if bytes_eq verb (codes "realm-put") then realm_put_ask (value_of (codes "text") pairs)
     else if bytes_eq verb (codes "page") then ask_or_bad (page pairs)
     else if bytes_eq verb (codes "post") then ask_or_bad (post pairs)
-    else asks.Bad (codes "verb")
+    else admin_ask verb pairs

@@ -6,3 +6,4 @@ pub mod Numbers
 pub mod Pairs
 pub mod Places
 pub mod Posts
+pub mod Steps

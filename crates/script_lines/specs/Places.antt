@@ -24,6 +24,7 @@ place_text places.Otp = codes "otp"
 place_text places.Roles = codes "roles"
 place_text places.Actions = codes "actions"
 place_text places.Text = codes "text"
+place_text places.H = codes "h"
 
 -- the first malformed place stands
 infixl 10 ◌>>=◌

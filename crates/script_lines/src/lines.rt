@@ -1,12 +1,11 @@
 ghost use Rattle.std.specs.Prelude.{◌≡◌, IfOk};
 ghost use Rattle.form_urlencoded.specs.Form.{split_once};
-ghost use Rattle.script_lines.specs.Lines.{line_ask, parts_ask, is_skipped, draws_from, bad_head};
+ghost use Rattle.script_lines.specs.Lines.{script_line, parts_line, is_skipped, draws_from, bad_head};
 
 use crate::numbers::number;
 use crate::pairs::pairs_of;
 use crate::place::{Place, bad};
-use crate::verbs::verb_ask;
-use asks::Ask;
+use crate::step::{Step, verb_step};
 use login_base::{Draws, Memory};
 use std::alloc::Global;
 
@@ -16,13 +15,13 @@ pub const LINE_LIMIT: usize = 131_072;
 /// The last moment that a line can name.
 const LAST_MOMENT: u64 = (1 << 53) - 1;
 
-/// What a line asks.
+/// A line that isn't passed over.
 #[derive(Debug, Drop)]
-pub struct LineAsk {
+pub struct ScriptLine {
     /// In milliseconds, below 2^53.
     pub moment: u64,
     pub draws: Draws,
-    pub ask: Ask,
+    pub step: Step,
 }
 
 /// The ten draws of a draw number: the number and those that follow it, modulo 2^64.
@@ -64,22 +63,22 @@ fn split_space(text: &[u8]) -> (&[u8], &[u8])
     }
 }
 
-/// What a line without a readable head asks.
-fn bad_head(alloc: Global) -> Result<LineAsk, Memory>
-    ensures ask { IfOk result (λ ask. ask ≡ bad_head) }
+/// A line without a readable head.
+fn bad_head(alloc: Global) -> Result<ScriptLine, Memory>
+    ensures line { IfOk result (λ line. line ≡ bad_head) }
 {
     let ask = bad(alloc, Place::Head)?;
-    Ok(LineAsk {
+    Ok(ScriptLine {
         moment: 0,
         draws: draws_from(0),
-        ask,
+        step: Step::Ask(ask),
     })
 }
 
-/// What a line within the limit asks.
-#[tactic(auto, unfolding(crate::specs::Lines::parts_ask))]
-fn parts_ask(alloc: Global, line: &[u8]) -> Result<LineAsk, Memory>
-    ensures ask { IfOk result (λ ask. ask ≡ parts_ask line.now) }
+/// What a line within the limit says.
+#[tactic(auto, unfolding(crate::specs::Lines::parts_line))]
+fn parts_line(alloc: Global, line: &[u8]) -> Result<ScriptLine, Memory>
+    ensures line { IfOk result (λ l. l ≡ parts_line line.now) }
 {
     let (moment, rest) = split_space(line);
     let (draw, rest) = split_space(rest);
@@ -87,24 +86,24 @@ fn parts_ask(alloc: Global, line: &[u8]) -> Result<LineAsk, Memory>
     match (number(moment, LAST_MOMENT), number(draw, u64::MAX)) {
         (Some(moment), Some(draw)) => {
             let pairs = pairs_of(alloc, pairs)?;
-            let ask = verb_ask(alloc, verb, pairs.as_slice())?;
-            Ok(LineAsk {
+            let step = verb_step(alloc, verb, pairs.as_slice())?;
+            Ok(ScriptLine {
                 moment,
                 draws: draws_from(draw),
-                ask,
+                step,
             })
         }
         _ => bad_head(alloc),
     }
 }
 
-/// What a line asks.
-#[tactic(auto, unfolding(crate::specs::Lines::line_ask))]
-pub fn line_ask(alloc: Global, line: &[u8]) -> Result<LineAsk, Memory>
-    ensures ask { IfOk result (λ ask. ask ≡ line_ask line.now) }
+/// What a line says.
+#[tactic(auto, unfolding(crate::specs::Lines::script_line))]
+pub fn script_line(alloc: Global, line: &[u8]) -> Result<ScriptLine, Memory>
+    ensures line { IfOk result (λ l. l ≡ script_line line.now) }
 {
     if line.len() > LINE_LIMIT {
         return bad_head(alloc);
     }
-    parts_ask(alloc, line)
+    parts_line(alloc, line)
 }

@@ -26,6 +26,7 @@ pub enum Place {
     Roles,
     Actions,
     Text,
+    H,
 }
 
 impl Place {
@@ -50,6 +51,7 @@ impl Place {
             Place::Roles => b"roles",
             Place::Actions => b"actions",
             Place::Text => b"text",
+            Place::H => b"h",
         }
     }
 }

@@ -31,7 +31,7 @@ use Rattle.tab_asks.specs.declared.check.Check.{Check}
 use Rattle.tab_asks.specs.declared.check.Check.TheVariants as checks
 use Rattle.tab_asks.specs.Forms.{named_by, target_of, concerned, is_of, evidence_of}
 use Rattle.tab_asks.specs.Pages.{page_fact, tab_answer}
-use Rattle.tab_asks.specs.Visit.{check_tab, check_enabled, check_whole, same_user, check_unfinished, user_of}
+use Rattle.tab_asks.specs.Visit.{check_tab, check_account, check_whole, same_user, check_unfinished, user_of}
 
 -- ---- refusals, in their order
 
@@ -106,7 +106,7 @@ check_form facts moment known asked named form finding =
     let password = password_for facts target in
     do
       fitting ← check_asked asked form
-      enabled ← check_enabled facts (concerned named who)
+      account ← check_account facts moment (concerned named who)
       kept ← check_credential password finding
       Ok (check_of named target password form finding)
 

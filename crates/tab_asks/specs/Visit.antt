@@ -7,10 +7,13 @@ use Rattle.facts.specs.declared.fact.Fact.{Fact}
 use Rattle.facts.specs.declared.tabs.Opening.{Opening}
 use Rattle.facts.specs.declared.tabs.RootSession.{RootSession}
 use Rattle.facts.specs.declared.tabs.TabState.{TabState}
-use Rattle.facts.specs.Accounts.{is_disabled}
+use Rattle.account_states.specs.States.{is_closed}
+use Rattle.account_states.specs.Standings.{standing_of}
+use Rattle.lockout.specs.declared.standing.Standing.{Standing}
+use Rattle.lockout.specs.Standing.{is_locked}
 use Rattle.facts.specs.Tabs.{tab_state, live_session, who_of}
 use Rattle.hall_answers.specs.declared.refusal.Refusal.{Refusal}
-use Rattle.hall_answers.specs.declared.refusal.Refusal.TheVariants.{UnknownTab, OtherUser, Finished, Disabled}
+use Rattle.hall_answers.specs.declared.refusal.Refusal.TheVariants.{UnknownTab, OtherUser, Finished, Locked, Disabled}
 use Rattle.hall_answers.specs.Refusals.{◌>>=◌}
 use Rattle.login_progress.specs.declared.known_tab.KnownTab.{KnownTab}
 
@@ -44,14 +47,24 @@ check_whole moment known = same_user known.state.named (user_of (live_session mo
 abbrev pub check_unfinished : KnownTab → Result (Unit {0}) Refusal
 check_unfinished known = if known.state.completed then Err Finished else Ok tt
 
--- the user is unknown, or isn't disabled
-unfoldable pub check_enabled : List Fact → Option UserId → Result (Unit {0}) Refusal
-check_enabled facts None = Ok tt
-check_enabled facts (Some user) = if is_disabled user facts then Err Disabled else Ok tt
+-- the failures of the account don't lock it at the moment
+unfoldable pub check_unlocked : ℕ → Standing → Result (Unit {0}) Refusal
+check_unlocked moment standing = if is_locked standing moment then Err (Locked standing.until) else Ok tt
+
+-- the account isn't closed
+unfoldable pub check_enabled : List Fact → UserId → Result (Unit {0}) Refusal
+check_enabled facts user = if is_closed user facts then Err Disabled else Ok tt
+
+-- the user is unknown, or has an account that is neither locked nor closed
+unfoldable pub check_account : List Fact → ℕ → Option UserId → Result (Unit {0}) Refusal
+check_account facts moment None = Ok tt
+check_account facts moment (Some user) = do
+  unlocked ← check_unlocked moment (standing_of user facts)
+  check_enabled facts user
 
 -- the tab may go on
 unfoldable pub check_visit : List Fact → ℕ → KnownTab → Result (Unit {0}) Refusal
 check_visit facts moment known = do
   whole ← check_whole moment known
   unfinished ← check_unfinished known
-  check_enabled facts (who_of moment known.state)
+  check_account facts moment (who_of moment known.state)

@@ -31,7 +31,7 @@ use crate::check::Check;
 use crate::form::{concerned, is_of, named_by, target_of};
 use crate::pages::{page_fact, tab_answer};
 use crate::passing::Passing;
-use crate::visit::{check_enabled, check_tab, check_unfinished, check_whole, same_user, user_of};
+use crate::visit::{check_account, check_tab, check_unfinished, check_whole, same_user, user_of};
 use fact_scans::tab_state_with;
 use facts::{Fact, Facts, Finding, Form, Need, Next, Post, UserPassword, What};
 use hall_answers::{Answer, Refusal, Setting, next_code, refused};
@@ -207,7 +207,7 @@ fn check_form<L: Ledger>(
 {
     let who = known.state.who(moment);
     check_asked(asked, form)?;
-    check_enabled(facts, concerned(named, who), steps)?;
+    check_account(facts, moment, concerned(named, who), steps)?;
     let target = target_of(named, who, form);
     let password = password_for(facts, target, steps);
     check_credential(&password, finding)?;

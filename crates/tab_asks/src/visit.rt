@@ -1,10 +1,12 @@
 ghost use Rattle.std.specs.Prelude.{◌≡◌, IfOk};
 ghost use Rattle.facts.specs.Tabs.{tab_state};
-ghost use Rattle.tab_asks.specs.Visit.{tab_in, check_tab, user_of, same_user, check_whole, check_unfinished, check_enabled, check_visit};
+ghost use Rattle.tab_asks.specs.Visit.{tab_in, check_tab, user_of, same_user, check_whole, check_unfinished, check_unlocked, check_account, check_visit};
 
-use fact_scans::{is_disabled, tab_state};
+use account_states::state_of;
+use fact_scans::tab_state;
 use facts::{Facts, RootSession};
 use hall_answers::Refusal;
+use lockout::Standing;
 use login_base::{Moment, RootKey, Steps, TabKey, UserId};
 use login_progress::KnownTab;
 use std::sync::ledger::Ledger;
@@ -88,19 +90,38 @@ pub(crate) fn check_unfinished(known: &KnownTab) -> Result<(), Refusal>
     Ok(())
 }
 
-/// The user is unknown, or isn't disabled.
-#[tactic(auto, unfolding(crate::specs::Visit::check_enabled))]
-pub(crate) fn check_enabled<L: Ledger>(
+/// The failures of the account don't lock it at the moment.
+#[tactic(auto, unfolding(crate::specs::Visit::check_unlocked))]
+fn check_unlocked(moment: Moment, standing: &Standing) -> Result<(), Refusal>
+    ensures { result ≡ check_unlocked moment standing.now }
+{
+    if standing.locked(moment) {
+        return Err(Refusal::Locked {
+            until: standing.until,
+        });
+    }
+    Ok(())
+}
+
+/// The user is unknown, or has an account that is neither locked nor closed.
+#[tactic(auto, unfolding(crate::specs::Visit::check_account, crate::specs::Visit::check_enabled))]
+pub(crate) fn check_account<L: Ledger>(
     facts: &Facts<'_>,
+    moment: Moment,
     user: Option<UserId>,
     steps: &mut Steps<L>,
 ) -> Result<(), Refusal>
-    ensures { result ≡ check_enabled facts.now user }
+    ensures { result ≡ check_account facts.now moment user }
 {
-    match user {
-        Some(user) if is_disabled(facts, user, steps) => Err(Refusal::Disabled),
-        _ => Ok(()),
+    let Some(user) = user else {
+        return Ok(());
+    };
+    let state = state_of(facts, user, steps);
+    check_unlocked(moment, &state.standing)?;
+    if state.is_closed() {
+        return Err(Refusal::Disabled);
     }
+    Ok(())
 }
 
 /// The tab may go on.
@@ -115,5 +136,5 @@ pub(crate) fn check_visit<L: Ledger>(
 {
     check_whole(moment, known)?;
     check_unfinished(known)?;
-    check_enabled(facts, known.state.who(moment), steps)
+    check_account(facts, moment, known.state.who(moment), steps)
 }

@@ -4,22 +4,16 @@ use Rattle.login_desk.proofs.play.play_lines.Goals as goal
 
 pub loop-init : goal.loop-init
 loop-init g c = record {
-  going = starts _ c.args.intake.now c.args.hall.now c.requires.pending c.requires.taken c.requires.journal c.requires.realm;
+  going = starts _ c.args.intake.now c.args.player.now c.requires.pending c.requires.taken c.requires.journal c.requires.begun;
   count = omega arith;
   limit = omega (arith, c.requires.taken);
 }
 
-pub answer_line-requires-clause-realm : goal.answer_line-requires-clause-realm
-answer_line-requires-clause-realm g c = c.loop.invariant.going.realm
+pub answer_line-requires : goal.answer_line-requires
+answer_line-requires g c = record { serials = few_serials _ _ _ _ _ c.loop.invariant.going c.requires.serials c.loop.invariant.limit }
 
-pub answer_line-requires-in-Last-clause-realm : goal.answer_line-requires-in-Last-clause-realm
-answer_line-requires-in-Last-clause-realm g c = c.loop.invariant.going.realm
-
-pub answer_line-requires-clause-serials : goal.answer_line-requires-clause-serials
-answer_line-requires-clause-serials g c = few_serials _ _ _ _ _ c.loop.invariant.going c.requires.serials c.loop.invariant.limit
-
-pub answer_line-requires-in-Last-clause-serials : goal.answer_line-requires-in-Last-clause-serials
-answer_line-requires-in-Last-clause-serials g c = few_serials _ _ _ _ _ c.loop.invariant.going c.requires.serials c.loop.invariant.limit
+pub answer_line-requires-in-Last : goal.answer_line-requires-in-Last
+answer_line-requires-in-Last g c = record { serials = few_serials _ _ _ _ _ c.loop.invariant.going c.requires.serials c.loop.invariant.limit }
 
 pub returns-in-Failed-answer_line-clause-play : goal.returns-in-Failed-answer_line-clause-play
 returns-in-Failed-answer_line-clause-play g c =
@@ -33,7 +27,7 @@ returns-in-Memory-answer_line-clause-play g c =
 pub returns-in-Last-clause-play : goal.returns-in-Last-clause-play
 returns-in-Last-clause-play g c =
     let turn = c.answer_line-in-Last.ensures in
-    rw c.end_of.ensures (last_turn _ _ _ _ _ c.loop.invariant.going c.in-Last.line.items c.next_line.new.self _ c.in-Last.ensures.unwritten.written turn.unread c.in-Last.ensures.line c.answer_line-in-Last.new.hall _ (rw c.as_slice-in-Last.ensures.value at turn.turn))
+    rw c.end_of.ensures (last_turn _ _ _ _ _ c.loop.invariant.going c.in-Last.line.items c.next_line.new.self _ c.in-Last.ensures.unwritten.written turn.unread c.in-Last.ensures.line c.answer_line-in-Last.new.player _ (rw c.as_slice-in-Last.ensures.value at turn.turn))
 
 pub returns-in-End-clause-play : goal.returns-in-End-clause-play
 returns-in-End-clause-play g c = answered _ _ _ _ _ c.loop.invariant.going _ c.in-End.ensures.unwritten.written c.in-End.ensures.line
@@ -53,7 +47,7 @@ loop-preserved g c =
     let turn = c.in-Told.ensures in
     record {
       going =
-          goes_on _ _ _ _ _ c.loop.invariant.going c.in-Line.line.items c.next_line.new.self _ took.unwritten.written turn.unread c.next_line.new.intake took.line c.answer_line.new.hall (rw c.as_slice.ensures.value at turn.turn.0)
+          goes_on _ _ _ _ _ c.loop.invariant.going c.in-Line.line.items c.next_line.new.self _ took.unwritten.written turn.unread c.next_line.new.intake took.line c.answer_line.new.player (rw c.as_slice.ensures.value at turn.turn.0)
           (rw c.as_slice.ensures.value at turn.turn.1) took.faults (omega (arith, took.unwritten.faults, turn.faults)) took.ends took.realm;
       count = omega (arith, took.line.count, c.loop.invariant.count);
       limit = took.limit;
