@@ -1,9 +1,9 @@
 -- What the service can play so far.
-use Rattle.std.specs.Prelude.{Bool, true, false, not, ◌&&◌, List, [], ◌∷◌, is_none}
+use Rattle.std.specs.Prelude.{Bool, true, false, not, ◌&&◌, List, [], ◌∷◌}
 use Rattle.std.specs.List.{list_all, list_any}
 use Rattle.flow_tree.specs.declared.exec.Exec.{Exec}
 use Rattle.flow_tree.specs.declared.exec.Kind.{Kind}
-use Rattle.flow_tree.specs.declared.exec.Kind.TheVariants.{Cookie, Otp, Recovery}
+use Rattle.flow_tree.specs.declared.exec.Kind.TheVariants.{Cookie}
 use Rattle.flow_tree.specs.Faults.{is_condition}
 use Rattle.flow_tree.specs.Places.{Place, places, is_of_kind}
 use Rattle.realm_data.specs.declared.realm_parts.RealmUser.{RealmUser}
@@ -21,14 +21,10 @@ abbrev pub is_empty : {A : Type 0} → List A → Bool
 is_empty [] = true
 is_empty (x ∷ xs) = false
 
--- the user has no one-time code, no recovery code and nothing to do
+-- the user has nothing to do before a login completes
 abbrev pub is_plain : RealmUser → Bool
-is_plain u = is_none u.otp && is_none u.recovery && is_empty u.actions
+is_plain u = is_empty u.actions
 
--- no execution of kind cookie, otp or recovery
-abbrev pub has_built_kinds : List Exec → Bool
-has_built_kinds flow = not (has_kind Cookie flow) && not (has_kind Otp flow) && not (has_kind Recovery flow)
-
--- neither such an execution nor a condition, and plain users alone
+-- neither a cookie nor a condition, and plain users alone
 unfoldable pub is_built : RealmParts → Bool
-is_built r = has_built_kinds r.flow && not (has_condition r.flow) && list_all is_plain r.users
+is_built r = not (has_kind Cookie r.flow) && not (has_condition r.flow) && list_all is_plain r.users

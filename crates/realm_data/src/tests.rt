@@ -429,12 +429,12 @@ fn these_kinds_are_built_and_no_condition(rt: HostRuntime) -> Result<(), Fail> {
         Kind::Username,
         Kind::Password,
         Kind::Form,
+        Kind::Otp,
+        Kind::Recovery,
     ] {
         assert!(rt; is_built(alloc, flow_of(alloc, kind)?, None)?);
     }
-    for kind in [Kind::Cookie, Kind::Otp, Kind::Recovery] {
-        assert!(rt; !is_built(alloc, flow_of(alloc, kind)?, None)?);
-    }
+    assert!(rt; !is_built(alloc, flow_of(alloc, Kind::Cookie)?, None)?);
     let flow = flow_with(alloc, Requirement::Disabled, Cond::Configured)?;
     assert!(rt; !is_built(alloc, flow, None)?);
     Ok(())
@@ -455,17 +455,12 @@ fn is_built_with(alloc: Global, user: RealmUser) -> Result<bool, Memory> {
 #[test]
 fn only_plain_users_are_built(rt: HostRuntime) -> Result<(), Fail> {
     let alloc = rt.alloc();
-    assert!(rt; is_built_with(alloc, ann(alloc)?)?);
-    let with_otp = RealmUser {
-        otp: secret(alloc, 10)?,
-        ..ann(alloc)?
-    };
-    assert!(rt; !is_built_with(alloc, with_otp)?);
     let with_codes = RealmUser {
+        otp: secret(alloc, 10)?,
         recovery: codes(alloc, 1)?,
         ..ann(alloc)?
     };
-    assert!(rt; !is_built_with(alloc, with_codes)?);
+    assert!(rt; is_built_with(alloc, with_codes)?);
     let mut with_action = ann(alloc)?;
     with_action.actions.push(Action::Terms)?;
     assert!(rt; !is_built_with(alloc, with_action)?);
