@@ -78,6 +78,20 @@ tab_limit r h =
     let tab = and_parts _ (is_within 60 86400 r.session.tab) (numbers_kept r h).session in
     (within 60 86400 r.session.tab tab.1).1
 
+otp_rule : (r : RealmParts) → is_realm r ≡ true → IsWithin 6 8 r.otp.digits × (r.otp.window ≤ 2)
+otp_rule r h =
+    let both = and_parts (is_within 6 8 r.otp.digits) (nat_le r.otp.window 2) (numbers_kept r h).otp in
+    (within 6 8 r.otp.digits both.0, leb-true r.otp.window 2 both.1)
+
+pub least_digits : (r : RealmParts) → is_realm r ≡ true → 6 ≤ r.otp.digits
+least_digits r h = (otp_rule r h).0.0
+
+pub most_digits : (r : RealmParts) → is_realm r ≡ true → r.otp.digits ≤ 8
+most_digits r h = (otp_rule r h).0.1
+
+pub widest_window : (r : RealmParts) → is_realm r ≡ true → r.otp.window ≤ 2
+widest_window r h = (otp_rule r h).1
+
 pub few_users : (r : RealmParts) → is_realm r ≡ true → length r.users ≤ 10000
 few_users r h = leb-true (length r.users) 10000 (and_parts (nat_le (length r.users) 10000) _ (rules_kept r h).users).0
 

@@ -8,7 +8,7 @@ ghost use Rattle.realm_data.specs.RealmBuiltin.{builtin_realm};
 
 use crate::realm_built::is_built;
 use crate::realm_builtin::builtin_parts;
-use crate::realm_parts::{RealmParts, RealmUser};
+use crate::realm_parts::{OtpRule, RealmParts, RealmUser};
 use crate::realm_rules::is_realm;
 use crate::same::Same;
 use lockout::Policy;
@@ -109,6 +109,17 @@ impl Realm {
         ensures range { is_iterations result ≡ true }
     {
         self.parts().iterations
+    }
+
+    /// How one-time codes are checked.
+    #[tactic(auto, using(crate::proofs::RealmRules::least_digits, crate::proofs::RealmRules::most_digits, crate::proofs::RealmRules::widest_window))]
+    pub fn otp(&self) -> OtpRule
+        ensures value { result ≡ self.now.otp }
+        ensures least { 6 ≤ result.digits }
+        ensures most { result.digits ≤ 8 }
+        ensures window { result.window ≤ 2 }
+    {
+        self.parts().otp
     }
 
     /// The users whom the realm comes with.
