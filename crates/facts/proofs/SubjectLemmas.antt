@@ -20,7 +20,7 @@ other a b h = rw h refl
 
 pub unconcerned : (root : RootKey) (tab : TabKey) (state : TabState) (fact : Fact) → concerns root tab (subject_of fact) ≡ false → tab_after root tab state fact ≡ state
 unconcerned root tab state (events.Session session (Some of) user moment idle most) h = rw (other of.0 root.0 h) refl
-unconcerned root tab state (events.Session session None user moment idle most) h = refl
+unconcerned root tab state (events.Session session None user moment idle most) h = absurd cc
 unconcerned root tab state (events.Seen session moment) h = absurd cc
 unconcerned root tab state (events.SessionEnd session) h = absurd cc
 unconcerned root tab state (events.Completed of user session moment) h = rw (other of.0 tab.0 h) refl

@@ -1,3 +1,4 @@
+pub mod About
 pub mod Accounts
 pub mod Evidence
 pub mod Kept
@@ -6,5 +7,6 @@ pub mod Places
 pub mod Realms
 pub mod Secrets
 pub mod Serials
+pub mod Spent
 pub mod Subjects
 pub mod Tabs

@@ -1,27 +1,81 @@
--- Of which tabs a fact can say something.
-use Rattle.std.specs.Prelude.{Bool, true, false, ◌==◌, Option, Some, None}
+-- Of what a fact can say something.
+use Rattle.std.specs.Prelude.{ℕ, Bool, true, false, ◌&&◌, ◌==◌, Option, Some, None}
 use Rattle.login_base.specs.declared.id.RootKey.{RootKey}
 use Rattle.login_base.specs.declared.id.TabKey.{TabKey}
+use Rattle.login_base.specs.declared.id.UserId.{UserId}
 use Rattle.facts.specs.declared.fact.Fact.{Fact}
 use Rattle.facts.specs.declared.fact.Fact.TheVariants as events
 use Rattle.facts.specs.declared.subject.Subject.{Subject}
 use Rattle.facts.specs.declared.subject.Subject.TheVariants as subjects
 
--- what says nothing of any tab has no subject
 abbrev pub subject_of : Fact → Subject
+subject_of (events.RealmPut version realm) = subjects.Realm
+subject_of (events.UserPut user name roles) = subjects.User user.0
+subject_of (events.SecretSet user kind serial secret by) = subjects.User user.0
+subject_of (events.ActionSet user kind) = subjects.User user.0
+subject_of (events.ActionDone user kind) = subjects.User user.0
+subject_of (events.TokenMade key user kind expiry) = subjects.Other
+subject_of (events.SpentToken key) = subjects.Other
+subject_of (events.Enabled user) = subjects.User user.0
+subject_of (events.Disabled user) = subjects.User user.0
+subject_of (events.Failed user moment) = subjects.User user.0
+subject_of (events.SpentStep credential step) = subjects.Secret credential
+subject_of (events.SpentRecovery credential number) = subjects.Secret credential
 subject_of (events.Session session (Some root) user moment idle most) = subjects.Root root.0.serial
-subject_of (events.Session session None user moment idle most) = subjects.Nothing
+subject_of (events.Session session None user moment idle most) = subjects.Session
 subject_of (events.Seen session moment) = subjects.Session
+subject_of (events.Level session level moment) = subjects.Session
 subject_of (events.SessionEnd session) = subjects.Session
-subject_of (events.Completed tab user session moment) = subjects.Tab tab.0.serial
+subject_of (events.Completed tab user session moment) = subjects.Login tab.0.serial user.0
 subject_of (events.Opened root tab version level life moment) = subjects.Tab tab.0.serial
 subject_of (events.Rendered tab code action offer) = subjects.Tab tab.0.serial
 subject_of (events.Named tab user) = subjects.Tab tab.0.serial
-subject_of event = subjects.Nothing
+subject_of (events.Passed tab execution user kind credential moment) = subjects.Login tab.0.serial user.0
+subject_of (events.Standing user standing) = subjects.User user.0
+subject_of (events.Mark tabs stored used kept) = subjects.Other
 
 -- it can be about the tab of the root
 abbrev pub concerns : RootKey → TabKey → Subject → Bool
-concerns root tab subjects.Nothing = false
+concerns root tab subjects.Realm = false
+concerns root tab (subjects.User user) = false
+concerns root tab (subjects.Secret serial) = false
 concerns root tab (subjects.Tab serial) = serial == tab.0.serial
+concerns root tab (subjects.Login serial user) = serial == tab.0.serial
 concerns root tab (subjects.Root serial) = serial == root.0.serial
 concerns root tab subjects.Session = true
+concerns root tab subjects.Other = false
+
+-- it is about the realm
+abbrev pub is_realm : Subject → Bool
+is_realm subjects.Realm = true
+is_realm subject = false
+
+-- it is about some account
+abbrev pub is_account : Subject → Bool
+is_account (subjects.User user) = true
+is_account subject = false
+
+-- it is about the user's account
+abbrev pub is_of_user : UserId → Subject → Bool
+is_of_user user (subjects.User serial) = serial == user.0
+is_of_user user subject = false
+
+-- it is about a login of the user, in any tab
+abbrev pub is_login_of : UserId → Subject → Bool
+is_login_of user (subjects.Login tab serial) = serial == user.0
+is_login_of user subject = false
+
+-- it is about a login of the user in the tab
+abbrev pub is_login_in : TabKey → UserId → Subject → Bool
+is_login_in tab user (subjects.Login serial of) = serial == tab.0.serial && of == user.0
+is_login_in tab user subject = false
+
+-- it is about the secret of this serial
+abbrev pub is_of_secret : ℕ → Subject → Bool
+is_of_secret serial (subjects.Secret own) = own == serial
+is_of_secret serial subject = false
+
+-- it is about none of these
+abbrev pub is_other : Subject → Bool
+is_other subjects.Other = true
+is_other subject = false

@@ -1,9 +1,12 @@
-ghost use Rattle.std.specs.Prelude.{◌≡◌, Option};
+ghost use Rattle.std.specs.Prelude.{◌≡◌, Bool, false, Option, None};
 ghost use Rattle.std.specs.Option.{option_copied, option_or};
 ghost use Rattle.facts.specs.declared.fact.Fact.{Fact};
+ghost use Rattle.facts.specs.declared.subject.Subject.{Subject};
 ghost use Rattle.facts.specs.Places.{last_of};
+ghost use Rattle.facts.specs.Subjects.{subject_of};
 
 use crate::fact::Fact;
+use crate::subject::Subject;
 
 /// Something that a fact may hold.
 pub trait Hold {
@@ -12,9 +15,19 @@ pub trait Hold {
     /// What it finds in a fact.
     ghost held: { Self → Fact → Option Self.Held };
 
+    /// The subjects of the facts that may hold it.
+    ghost about: { Self → Subject → Bool };
+
     /// Lends it, where the fact holds it.
     fn of<'a>(&self, fact: &'a Fact) -> Option<&'a Self::Held>
         ensures value { option_copied result ≡ held self.now fact.now };
+
+    /// Whether a fact of this subject may hold it.
+    fn is_about(&self, subject: Subject) -> bool
+        ensures value { result ≡ about self.now subject };
+
+    /// A fact of another subject doesn't.
+    ghost only: { (hold : Self) (fact : Fact) → about hold (subject_of fact) ≡ false → held hold fact ≡ None };
 }
 
 /// The newer one, where there is one.

@@ -14,7 +14,9 @@ mod realm_put;
 mod secret;
 mod subject;
 mod tabs;
+mod user_otp;
 mod user_password;
+mod user_recovery;
 
 pub use asks::{
     Access, AdminVerb, Ask, Finding, Form, Life, Need, NewTab, NewUser, Next, PasswordUse, Post,
@@ -36,4 +38,6 @@ pub use realm_put::RealmPut;
 pub use secret::Secret;
 pub use subject::Subject;
 pub use tabs::{Opening, RootSession, TabState};
+pub use user_otp::UserOtp;
 pub use user_password::UserPassword;
+pub use user_recovery::UserRecovery;

@@ -1,20 +1,29 @@
 ghost use Rattle.std.specs.Prelude.{◌≡◌};
-ghost use Rattle.facts.specs.Subjects.{subject_of, concerns};
+ghost use Rattle.facts.specs.Subjects.{subject_of, concerns, is_realm, is_account, is_of_user, is_login_of, is_login_in, is_of_secret, is_other};
 
 use crate::fact::Fact;
-use login_base::{RootKey, TabKey};
+use login_base::{RootKey, TabKey, UserId};
 
-/// Of which tabs a fact can say something.
+/// Of what a fact can say something. It is kept beside the fact, so that a question needs to read
+/// those facts alone that can have an answer.
 #[derive(Clone, Copy, Debug, PartialEq, Eq)]
 pub enum Subject {
-    /// Of none.
-    Nothing,
-    /// Of the one with this serial.
+    /// Of the realm.
+    Realm,
+    /// Of the account of the user with this serial.
+    User(u64),
+    /// Of the secret with this serial.
+    Secret(u64),
+    /// Of the tab with this serial.
     Tab(u64),
-    /// Of those of the root with this serial.
+    /// Of the login of a user in a tab, both by their serials.
+    Login { tab: u64, user: u64 },
+    /// Of the tabs of the root with this serial.
     Root(u64),
-    /// Of those of any root: it names a session without its root.
+    /// Of the tabs of any root: it names a session, and no root.
     Session,
+    /// Of something else.
+    Other,
 }
 
 impl Subject {
@@ -23,16 +32,34 @@ impl Subject {
         ensures value { result ≡ subject_of fact.now }
     {
         match fact {
+            Fact::RealmPut { .. } => Subject::Realm,
+            Fact::UserPut { user, .. }
+            | Fact::SecretSet { user, .. }
+            | Fact::ActionSet { user, .. }
+            | Fact::ActionDone { user, .. }
+            | Fact::Enabled { user }
+            | Fact::Disabled { user }
+            | Fact::Failed { user, .. }
+            | Fact::Standing { user, .. } => Subject::User(user.0),
+            Fact::SpentStep { credential, .. } | Fact::SpentRecovery { credential, .. } => {
+                Subject::Secret(*credential)
+            }
+            Fact::Opened { tab, .. } | Fact::Rendered { tab, .. } | Fact::Named { tab, .. } => {
+                Subject::Tab(tab.0.serial)
+            }
+            Fact::Passed { tab, user, .. } | Fact::Completed { tab, user, .. } => Subject::Login {
+                tab: tab.0.serial,
+                user: user.0,
+            },
             Fact::Session {
                 root: Some(root),
                 ..
             } => Subject::Root(root.0.serial),
-            Fact::Seen { .. } | Fact::SessionEnd { .. } => Subject::Session,
-            Fact::Completed { tab, .. }
-            | Fact::Opened { tab, .. }
-            | Fact::Rendered { tab, .. }
-            | Fact::Named { tab, .. } => Subject::Tab(tab.0.serial),
-            _ => Subject::Nothing,
+            Fact::Session { root: None, .. }
+            | Fact::Seen { .. }
+            | Fact::Level { .. }
+            | Fact::SessionEnd { .. } => Subject::Session,
+            Fact::TokenMade { .. } | Fact::SpentToken { .. } | Fact::Mark { .. } => Subject::Other,
         }
     }
 
@@ -41,10 +68,65 @@ impl Subject {
         ensures value { result ≡ concerns root tab self }
     {
         match self {
-            Subject::Nothing => false,
-            Subject::Tab(serial) => serial == tab.0.serial,
+            Subject::Tab(serial) | Subject::Login { tab: serial, .. } => serial == tab.0.serial,
             Subject::Root(serial) => serial == root.0.serial,
             Subject::Session => true,
+            Subject::Realm | Subject::User(_) | Subject::Secret(_) | Subject::Other => false,
         }
+    }
+
+    /// Whether it is the realm.
+    pub fn is_realm(self) -> bool
+        ensures value { result ≡ is_realm self }
+    {
+        matches!(self, Subject::Realm)
+    }
+
+    /// Whether it is an account.
+    pub fn is_account(self) -> bool
+        ensures value { result ≡ is_account self }
+    {
+        matches!(self, Subject::User(_))
+    }
+
+    /// Whether it is the user's account.
+    pub fn is_of_user(self, user: UserId) -> bool
+        ensures value { result ≡ is_of_user user self }
+    {
+        matches!(self, Subject::User(serial) if serial == user.0)
+    }
+
+    /// Whether it is a login of the user, in any tab.
+    pub fn is_login_of(self, user: UserId) -> bool
+        ensures value { result ≡ is_login_of user self }
+    {
+        matches!(self, Subject::Login { user: serial, .. } if serial == user.0)
+    }
+
+    /// Whether it is a login of the user in the tab.
+    pub fn is_login_in(self, tab: TabKey, user: UserId) -> bool
+        ensures value { result ≡ is_login_in tab user self }
+    {
+        match self {
+            Subject::Login {
+                tab: serial,
+                user: of,
+            } => serial == tab.0.serial && of == user.0,
+            _ => false,
+        }
+    }
+
+    /// Whether it is the secret of this serial.
+    pub fn is_of_secret(self, serial: u64) -> bool
+        ensures value { result ≡ is_of_secret serial self }
+    {
+        matches!(self, Subject::Secret(own) if own == serial)
+    }
+
+    /// Whether it is something else than a realm, an account, a secret, a tab or a session.
+    pub fn is_other(self) -> bool
+        ensures value { result ≡ is_other self }
+    {
+        matches!(self, Subject::Other)
     }
 }
