@@ -1,2 +1,4 @@
 pub mod Backwards
 pub mod EvidenceLemmas
+pub mod SpentLemmas
+pub mod Unread

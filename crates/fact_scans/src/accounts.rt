@@ -3,7 +3,7 @@ ghost use Rattle.std.specs.Option.{option_copied};
 ghost use Rattle.facts.specs.Accounts.{account_named, name_of, roles_of, is_disabled};
 
 use crate::scan::{Pick, last_by, last_held};
-use facts::{Fact, Facts, Hold};
+use facts::{Fact, Facts, Hold, Subject};
 use login_base::{Name, Sequence, Steps, UserId};
 use std::sync::ledger::Ledger;
 
@@ -15,10 +15,14 @@ struct UserPutAs<'a> {
 
 impl<'a> Pick for UserPutAs<'a> {
     ghost use Rattle.facts.specs.Accounts.{put_as};
+    ghost use Rattle.facts.specs.Subjects.{is_account};
+    ghost use Rattle.fact_scans.specs.About.{of_name};
 
     type Out = UserId;
 
     ghost pick = { λ p. put_as p.name.now };
+
+    ghost about = { λ _. is_account };
 
     fn of(&self, fact: &Fact) -> Option<UserId> {
         match fact {
@@ -26,6 +30,12 @@ impl<'a> Pick for UserPutAs<'a> {
             _ => None,
         }
     }
+
+    fn is_about(&self, subject: Subject) -> bool {
+        subject.is_account()
+    }
+
+    ghost only = { λ p. of_name p.name.now };
 }
 
 /// The account of a name.
@@ -48,10 +58,14 @@ struct NamePut {
 
 impl Hold for NamePut {
     ghost use Rattle.facts.specs.Accounts.{name_put};
+    ghost use Rattle.facts.specs.Subjects.{is_of_user};
+    ghost use Rattle.fact_scans.specs.About.{of_users_name};
 
     type Held = Name;
 
     ghost held = { λ p. name_put p.user };
+
+    ghost about = { λ p. is_of_user p.user };
 
     fn of<'a>(&self, fact: &'a Fact) -> Option<&'a Name> {
         match fact {
@@ -59,6 +73,12 @@ impl Hold for NamePut {
             _ => None,
         }
     }
+
+    fn is_about(&self, subject: Subject) -> bool {
+        subject.is_of_user(self.user)
+    }
+
+    ghost only = { λ p. of_users_name p.user };
 }
 
 /// The name of a user.
@@ -81,10 +101,14 @@ struct RolesPut {
 
 impl Hold for RolesPut {
     ghost use Rattle.facts.specs.Accounts.{roles_put};
+    ghost use Rattle.facts.specs.Subjects.{is_of_user};
+    ghost use Rattle.fact_scans.specs.About.{of_roles};
 
     type Held = Sequence<Name>;
 
     ghost held = { λ p. roles_put p.user };
+
+    ghost about = { λ p. is_of_user p.user };
 
     fn of<'a>(&self, fact: &'a Fact) -> Option<&'a Sequence<Name>> {
         match fact {
@@ -92,6 +116,12 @@ impl Hold for RolesPut {
             _ => None,
         }
     }
+
+    fn is_about(&self, subject: Subject) -> bool {
+        subject.is_of_user(self.user)
+    }
+
+    ghost only = { λ p. of_roles p.user };
 }
 
 /// The roles of a user.
@@ -114,10 +144,14 @@ struct DisabledBy {
 
 impl Pick for DisabledBy {
     ghost use Rattle.facts.specs.Accounts.{disabled_by};
+    ghost use Rattle.facts.specs.Subjects.{is_of_user};
+    ghost use Rattle.fact_scans.specs.About.{of_disabling};
 
     type Out = bool;
 
     ghost pick = { λ p. disabled_by p.user };
+
+    ghost about = { λ p. is_of_user p.user };
 
     fn of(&self, fact: &Fact) -> Option<bool> {
         match fact {
@@ -126,6 +160,12 @@ impl Pick for DisabledBy {
             _ => None,
         }
     }
+
+    fn is_about(&self, subject: Subject) -> bool {
+        subject.is_of_user(self.user)
+    }
+
+    ghost only = { λ p. of_disabling p.user };
 }
 
 /// Whether a user is disabled: the last fact that disables or enables it disables it.

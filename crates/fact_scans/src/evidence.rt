@@ -2,8 +2,8 @@ ghost use Rattle.std.specs.Prelude.{◌≡◌};
 ghost use Rattle.facts.specs.Evidence.{is_by, has_evidence};
 ghost use Rattle.fact_scans.specs.Counting.{nothing, some_counts, with_kind, without_kind, is_own, is_foreign};
 
-use crate::scan::fold_by;
-use facts::{Fact, Facts, Fold, SecretKind};
+use crate::scan::{FoldAbout, fold_by};
+use facts::{Fact, Facts, Fold, SecretKind, Subject};
 use login_base::{Name, Steps, TabKey, UserId, same_id};
 use std::sync::ledger::Ledger;
 
@@ -126,6 +126,18 @@ impl<'a> Fold for Evidence<'a> {
             _ => {}
         }
     }
+}
+
+impl<'a> FoldAbout for Evidence<'a> {
+    ghost use Rattle.fact_scans.specs.About.{is_evidence, of_evidence};
+
+    ghost about = { λ e. is_evidence e.tab e.user };
+
+    fn is_about(&self, subject: Subject) -> bool {
+        subject.is_login_in(self.tab, self.user) || subject.is_of_user(self.user)
+    }
+
+    ghost only = { λ e. of_evidence e.tab e.user e.id.now };
 }
 
 /// Whether an accepted post of the user for the execution counts in the tab: the user's secret on

@@ -9,15 +9,19 @@ mod passwords;
 mod realms;
 mod scan;
 mod serials;
+mod spent;
 mod tabs;
 #[cfg(test)]
 mod tests;
+mod user_secrets;
 
 pub use accounts::{account_named, is_disabled, name_of, roles_of};
 pub use evidence::has_evidence;
 pub use moments::last_used_moment;
 pub use passwords::password_of;
 pub use realms::{current_realm, last_version, realm_of};
-pub use scan::fold_by;
+pub use scan::{FoldAbout, fold_by};
 pub use serials::{last_stored_serial, last_tab_serial};
+pub use spent::{codes_spent, spent_steps};
 pub use tabs::{tab_state, tab_state_with};
+pub use user_secrets::{otp_of, recovery_of};

@@ -2,7 +2,7 @@ ghost use Rattle.std.specs.Prelude.{◌≡◌};
 ghost use Rattle.facts.specs.Moments.{last_used_moment};
 
 use crate::scan::{Pick, last_by};
-use facts::{Fact, Facts};
+use facts::{Fact, Facts, Subject};
 use login_base::{Moment, Steps};
 use std::sync::ledger::Ledger;
 
@@ -12,10 +12,14 @@ struct UsedMoment;
 
 impl Pick for UsedMoment {
     ghost use Rattle.facts.specs.Moments.{used_by};
+    ghost use Rattle.facts.specs.Subjects.{is_other};
+    ghost use Rattle.fact_scans.specs.About.{of_mark};
 
     type Out = Moment;
 
     ghost pick = { λ _. used_by };
+
+    ghost about = { λ _. is_other };
 
     fn of(&self, fact: &Fact) -> Option<Moment> {
         match fact {
@@ -23,6 +27,12 @@ impl Pick for UsedMoment {
             _ => None,
         }
     }
+
+    fn is_about(&self, subject: Subject) -> bool {
+        subject.is_other()
+    }
+
+    ghost only = { λ _. of_mark };
 }
 
 /// The used moment of the last mark, 0 where there is none.

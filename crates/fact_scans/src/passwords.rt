@@ -2,7 +2,7 @@ ghost use Rattle.std.specs.Prelude.{◌≡◌};
 ghost use Rattle.facts.specs.Secrets.{kept_password, password_of};
 
 use crate::scan::{Pick, last_by};
-use facts::{Fact, Facts, Secret, SecretKind, UserPassword};
+use facts::{Fact, Facts, Secret, SecretKind, Subject, UserPassword};
 use login_base::{Steps, UserId};
 use std::sync::ledger::Ledger;
 
@@ -26,10 +26,14 @@ fn kept_password(serial: u64, secret: &Secret) -> Option<UserPassword>
 
 impl Pick for PasswordSet {
     ghost use Rattle.facts.specs.Secrets.{password_set};
+    ghost use Rattle.facts.specs.Subjects.{is_of_user};
+    ghost use Rattle.fact_scans.specs.About.{of_password};
 
     type Out = Option<UserPassword>;
 
     ghost pick = { λ p. password_set p.user };
+
+    ghost about = { λ p. is_of_user p.user };
 
     fn of(&self, fact: &Fact) -> Option<Option<UserPassword>> {
         match fact {
@@ -43,6 +47,12 @@ impl Pick for PasswordSet {
             _ => None,
         }
     }
+
+    fn is_about(&self, subject: Subject) -> bool {
+        subject.is_of_user(self.user)
+    }
+
+    ghost only = { λ p. of_password p.user };
 }
 
 /// The password that a user has.

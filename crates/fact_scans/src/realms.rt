@@ -3,7 +3,9 @@ ghost use Rattle.std.specs.Option.{option_copied};
 ghost use Rattle.facts.specs.Realms.{last_version, realm_of, current_realm};
 
 use crate::scan::last_held;
-use facts::{Fact, Facts, Hold, Realm, RealmPut, Version, fold_in, last_held_in, newer_held};
+use facts::{
+    Fact, Facts, Hold, Realm, RealmPut, Subject, Version, fold_in, last_held_in, newer_held,
+};
 use login_base::Steps;
 use std::sync::ledger::Ledger;
 
@@ -15,10 +17,14 @@ struct RealmPutAs {
 
 impl Hold for RealmPutAs {
     ghost use Rattle.facts.specs.Realms.{put_as};
+    ghost use Rattle.facts.specs.Subjects.{is_realm};
+    ghost use Rattle.fact_scans.specs.About.{of_version};
 
     type Held = Realm;
 
     ghost held = { λ p. put_as p.version };
+
+    ghost about = { λ _. is_realm };
 
     fn of<'a>(&self, fact: &'a Fact) -> Option<&'a Realm> {
         match fact {
@@ -26,6 +32,12 @@ impl Hold for RealmPutAs {
             _ => None,
         }
     }
+
+    fn is_about(&self, subject: Subject) -> bool {
+        subject.is_realm()
+    }
+
+    ghost only = { λ p. of_version p.version };
 }
 
 /// The version of the realm in force, 0 where there is none.

@@ -1,8 +1,9 @@
-ghost use Rattle.std.specs.Prelude.{◌≡◌, ◌<◌, Some, fold, length, option_map, slice_get, if◌then◌else◌};
+ghost use Rattle.std.specs.Prelude.{◌≡◌, Some, fold, if◌then◌else◌};
 ghost use Rattle.facts.specs.Tabs.{is_root, seen_at, ended_by, session_after, tab_after, are_new, tab_state};
 ghost use Rattle.login_base.specs.IdText.{same_id};
 
-use facts::{Chronicle, Fact, Facts, Fold, Opening, RootSession, TabState, fold_in};
+use crate::scan::{FoldAbout, fold_kept};
+use facts::{Chronicle, Fact, Facts, Fold, Opening, RootSession, Subject, TabState, fold_in};
 use login_base::{Moment, RootKey, SessionId, Steps, TabKey, UserId, same_id};
 use std::sync::ledger::Ledger;
 
@@ -127,40 +128,17 @@ impl Fold for TabOf {
     }
 }
 
-impl TabOf {
-    /// Carries it over the fact at a place, which is read only where it can be about the tab.
-    #[tactic(auto, using(facts::proofs::SubjectLemmas::unconcerned_at))]
-    fn after_kept<L: Ledger>(
-        &self,
-        carried: &mut TabState,
-        chronicle: &Chronicle,
-        index: usize,
-        steps: &mut Steps<L>,
-    )
-        requires within { index < length chronicle.now.list }
-        ensures value { option_map (tab_after self.now.root self.now.tab carried.old)
-            (slice_get chronicle.now.list index) ≡ Some carried.new }
-    {
-        if chronicle.subject(index).concerns(self.root, self.tab) {
-            self.after(carried, chronicle.at(index, steps));
-        }
+impl FoldAbout for TabOf {
+    ghost use Rattle.facts.specs.Subjects.{concerns};
+    ghost use Rattle.facts.proofs.SubjectLemmas.{unconcerned};
+
+    ghost about = { λ t. concerns t.root t.tab };
+
+    fn is_about(&self, subject: Subject) -> bool {
+        subject.concerns(self.root, self.tab)
     }
 
-    /// What is carried to the end of a chronicle.
-    fn kept<L: Ledger>(
-        &self,
-        chronicle: &Chronicle,
-        start: TabState,
-        steps: &mut Steps<L>,
-    ) -> TabState
-        ensures { result ≡ fold (tab_after self.now.root self.now.tab) start chronicle.now.list }
-    {
-        let mut carried = start;
-        for i in 0..chronicle.len() {
-            self.after_kept(&mut carried, chronicle, i, steps);
-        }
-        carried
-    }
+    ghost only = { λ t. unconcerned t.root t.tab };
 }
 
 /// Whether a root and a tab are newer than all that these facts name.
@@ -194,7 +172,7 @@ pub fn tab_state<L: Ledger>(
     if are_new(chronicle, root, tab) {
         fold_in(more, &of, nothing)
     } else {
-        fold_in(more, &of, of.kept(chronicle, nothing, steps))
+        fold_in(more, &of, fold_kept(chronicle, &of, nothing, steps))
     }
 }
 

@@ -4,13 +4,13 @@ use Rattle.fact_scans.proofs.scan.last_kept.Goals as goal
 
 pub returns-then-is_some : goal.returns-then-is_some
 returns-then-is_some g c =
-    found_back (g.P.Pick.pick c.args.pick.now) c.args.chronicle.now.list c.loop-end.end c.at.result.now c.of-found.result
-    c.loop-end-test.true c.at.ensures.fact c.loop-end.invariant.later c.of-found.ensures.value (sym c.is_some.ensures ∙ c.if-is_some.true)
+    found_back (g.P.Pick.pick c.args.pick.now) c.args.chronicle.now.list c.loop-end.end c.picked_at-found.result
+    c.loop-end-test.true c.picked_at-found.ensures c.loop-end.invariant.later (sym c.is_some.ensures ∙ c.if-is_some.true)
 
 pub loop-end-preserved : goal.loop-end-preserved
 loop-end-preserved g c = record {
   within = omega arith;
   later =
-      missed_back (g.P.Pick.pick c.args.pick.now) c.args.chronicle.now.list c.loop-end.end c.at.result.now c.of-found.result
-      c.loop-end-test.true c.at.ensures.fact c.loop-end.invariant.later c.of-found.ensures.value (sym c.is_some.ensures ∙ c.if-is_some.false);
+      missed_back (g.P.Pick.pick c.args.pick.now) c.args.chronicle.now.list c.loop-end.end c.picked_at-found.result
+      c.loop-end-test.true c.picked_at-found.ensures c.loop-end.invariant.later (sym c.is_some.ensures ∙ c.if-is_some.false);
 }
