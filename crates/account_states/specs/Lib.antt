@@ -1,3 +1,4 @@
+pub mod About
 pub mod Carrying
 pub mod Count
 pub mod Standings

@@ -1,8 +1,8 @@
 ghost use Rattle.std.specs.Prelude.{◌≡◌, ◌<◌, [], ◌∷◌, length, IfOk, IsOk, IsTrue, OnOk};
 ghost use Rattle.account_states.specs.Count.{account_count, has_few_puts, has_room, users_put, Gains};
 
-use fact_scans::fold_by;
-use facts::{Chronicle, Fact, Facts, Fold};
+use fact_scans::{FoldAbout, fold_by};
+use facts::{Chronicle, Fact, Facts, Fold, Subject};
 use login_base::{Memory, Steps};
 use std::alloc::Global;
 use std::collections::BTreeSet;
@@ -28,6 +28,19 @@ impl Fold for Puts {
             _ => {}
         }
     }
+}
+
+impl FoldAbout for Puts {
+    ghost use Rattle.facts.specs.Subjects.{is_account};
+    ghost use Rattle.account_states.specs.About.{of_puts};
+
+    ghost about = { λ _. is_account };
+
+    fn is_about(&self, subject: Subject) -> bool {
+        subject.is_account()
+    }
+
+    ghost only = { λ _. of_puts };
 }
 
 /// Adds the user whom a fact puts.

@@ -3,8 +3,8 @@ ghost use Rattle.account_states.specs.States.{is_closed_in, until_in, state_of};
 
 use crate::failures::Failures;
 use crate::policy::ValidPolicy;
-use fact_scans::fold_by;
-use facts::{Fact, Facts, Fold};
+use fact_scans::{FoldAbout, fold_by};
+use facts::{Fact, Facts, Fold, Subject};
 use lockout::Standing;
 use login_base::{Moment, Steps, UserId};
 use std::sync::ledger::Ledger;
@@ -82,6 +82,22 @@ impl Fold for StateOf {
             _ => {}
         }
     }
+}
+
+impl FoldAbout for StateOf {
+    ghost use Rattle.account_states.specs.About.{is_of_state, of_state};
+
+    ghost about = { λ s. is_of_state s.user };
+
+    fn is_about(&self, subject: Subject) -> bool {
+        match subject {
+            Subject::Realm => true,
+            Subject::User(serial) | Subject::Login { user: serial, .. } => serial == self.user.0,
+            _ => false,
+        }
+    }
+
+    ghost only = { λ s. of_state s.user };
 }
 
 /// How the account of a user stands: one scan over the facts.

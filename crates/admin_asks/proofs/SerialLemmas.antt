@@ -1,5 +1,5 @@
 -- How far the asks of administrators lift the counters.
-use Rattle.std.proofs.Common.{◌≡◌, ℕ, ◌+◌, List, [], ◌∷◌, Option, Some, None, refl, ap, sym, arith}
+use Rattle.std.proofs.Common.{◌≡◌, ℕ, ◌+◌, List, [], ◌∷◌, Option, Some, None, refl, ap, sym, arith, true}
 use Rattle.std.specs.Prelude.{Result, Ok, Err}
 use Rattle.login_base.specs.declared.id.UserId.{UserId}
 use Rattle.asks.specs.declared.admin.AdminVerb.{AdminVerb}
@@ -19,6 +19,11 @@ use Rattle.facts.specs.Realms.{last_version}
 use Rattle.facts.proofs.InForce.{last_version_more}
 use Rattle.facts.proofs.SerialLemmas.{last_tab_serial_more, last_stored_serial_more}
 use Rattle.realm_data.specs.declared.realm_parts.RealmParts.{RealmParts}
+use Rattle.realm_data.specs.PasswordHash.{HashedPassword}
+use Rattle.admin_asks.specs.Account.{account_facts}
+use Rattle.admin_asks.specs.OtpRemove.{check_there, answer_to_otp_remove, due_otp_remove}
+use Rattle.admin_asks.specs.OtpSet.{answer_to_otp_set, due_otp_set}
+use Rattle.admin_asks.specs.Passwords.{derived}
 use Rattle.admin_asks.specs.RealmPut.{check_realm, answer_to_realm, due_realm_put}
 use Rattle.admin_asks.specs.Admin.{check_key, due_verb, verb_with, due_admin}
 use Rattle.admin_asks.specs.Closing.{answer_to_enable, answer_to_disable, due_enable, due_disable, check_open, due_unlock}
@@ -26,11 +31,16 @@ use Rattle.admin_asks.specs.Named.{check_user}
 use Rattle.admin_asks.specs.SetPassword.{answer_to_set_password, due_set_password}
 use Rattle.admin_asks.specs.UserAdd.{check_built, check_name_free, check_room, check_new_user, answer_to_new_user, due_user_add}
 
--- a user whose serial is the next one, and its password
-user_lifts : (old : List Fact) (new : NewUser) (finding : Finding) (user : UserId) → user.0 ≡ last_stored_serial old + 1 → Lifts 2 old (answer_to_new_user new finding user).added
-user_lifts old new (findings.Derived salt count digest) user next = lifts 2 old _ (omega arith) (omega arith) refl
-user_lifts old new findings.None user next = lifts 2 old _ (omega arith) (omega arith) refl
-user_lifts old new (findings.Checked had fits) user next = lifts 2 old _ (omega arith) (omega arith) refl
+-- a user whose serial is the next one, with a password and a secret of one-time codes
+account_lifts : (old : List Fact) (user : UserId) (name : List ℕ) (roles : List (List ℕ)) (password : Option HashedPassword) (otp : Option (List ℕ)) → user.0 ≡ last_stored_serial old + 1
+    → Lifts 3 old (account_facts user name roles true (record { password = password; otp = otp; recovery = None }))
+account_lifts old user name roles None None next = lifts 3 old _ (omega arith) (omega arith) refl
+account_lifts old user name roles None (Some key) next = lifts 3 old _ (omega arith) (omega arith) refl
+account_lifts old user name roles (Some hash) None next = lifts 3 old _ (omega arith) (omega arith) refl
+account_lifts old user name roles (Some hash) (Some key) next = lifts 3 old _ (omega arith) (omega arith) refl
+
+user_lifts : (old : List Fact) (new : NewUser) (finding : Finding) (user : UserId) → user.0 ≡ last_stored_serial old + 1 → Lifts 3 old (answer_to_new_user new finding user).added
+user_lifts old new finding user next = account_lifts old user new.name new.roles (derived finding) new.otp next
 
 -- where nothing refuses, the user is the next one
 next_user : (built free room : Result (Unit {0}) Refusal) (serial : ℕ) (user : UserId)
@@ -42,14 +52,14 @@ next_user (Ok x) (Err refusal) room serial user h = absurd cc
 next_user (Err refusal) free room serial user h = absurd cc
 
 new_user_lifts : (setting : Setting) (new : NewUser) (finding : Finding) (user : Result UserId Refusal) → check_new_user setting.facts new ≡ user
-    → Lifts 2 setting.facts (settled setting.facts None (answer_to_new_user new finding) user).added
+    → Lifts 3 setting.facts (settled setting.facts None (answer_to_new_user new finding) user).added
 unfolding check_new_user
 new_user_lifts setting new finding (Ok user) h =
     user_lifts setting.facts new finding user (next_user (check_built new) (check_name_free setting.facts new.name) (check_room setting.facts) (last_stored_serial setting.facts + 1) user h)
-new_user_lifts setting new finding (Err refusal) h = nothing 2 setting.facts
+new_user_lifts setting new finding (Err refusal) h = nothing 3 setting.facts
 
 -- the next version is the one after the last
-realm_raises : (setting : Setting) (realm : Result RealmParts Refusal) → Raising 2 setting.facts (settled setting.facts None (answer_to_realm setting.facts) realm).added
+realm_raises : (setting : Setting) (realm : Result RealmParts Refusal) → Raising 3 setting.facts (settled setting.facts None (answer_to_realm setting.facts) realm).added
 realm_raises setting (Ok realm) =
     let new = RealmPut (last_version setting.facts + 1) realm ∷ [] in
     record {
@@ -57,45 +67,60 @@ realm_raises setting (Ok realm) =
       stored = let e = last_stored_serial_more setting.facts new in omega arith;
       version = let e = last_version_more setting.facts new in omega arith;
     }
-realm_raises setting (Err refusal) = raising 2 setting.facts [] (nothing 2 setting.facts)
+realm_raises setting (Err refusal) = raising 3 setting.facts [] (nothing 3 setting.facts)
 
 -- a new password has the next serial
 password_lifts : (setting : Setting) (name : List ℕ) (finding : Finding) (user : Result UserId Refusal)
-    → Lifts 2 setting.facts (settled setting.facts None (answer_to_set_password setting.facts name finding) user).added
-password_lifts setting name (findings.Derived salt count digest) (Ok user) = lifts 2 setting.facts _ (omega arith) (omega arith) refl
-password_lifts setting name findings.None (Ok user) = nothing 2 setting.facts
-password_lifts setting name (findings.Checked had fits) (Ok user) = nothing 2 setting.facts
-password_lifts setting name finding (Err refusal) = nothing 2 setting.facts
+    → Lifts 3 setting.facts (settled setting.facts None (answer_to_set_password setting.facts name finding) user).added
+password_lifts setting name (findings.Derived salt count digest) (Ok user) = lifts 3 setting.facts _ (omega arith) (omega arith) refl
+password_lifts setting name findings.None (Ok user) = nothing 3 setting.facts
+password_lifts setting name (findings.Checked had fits) (Ok user) = nothing 3 setting.facts
+password_lifts setting name finding (Err refusal) = nothing 3 setting.facts
+
+-- a new secret of one-time codes has the next serial, and its removal has none
+otp_set_lifts : (setting : Setting) (name key : List ℕ) (user : Result UserId Refusal)
+    → Lifts 3 setting.facts (settled setting.facts None (answer_to_otp_set setting.facts name key) user).added
+otp_set_lifts setting name key (Ok user) = lifts 3 setting.facts _ (omega arith) (omega arith) refl
+otp_set_lifts setting name key (Err refusal) = nothing 3 setting.facts
+
+otp_remove_lifts : (setting : Setting) (name : List ℕ) (user : Result UserId Refusal)
+    → Lifts 3 setting.facts (settled setting.facts None (answer_to_otp_remove name) user).added
+otp_remove_lifts setting name (Ok user) = lifts 3 setting.facts _ (omega arith) (omega arith) refl
+otp_remove_lifts setting name (Err refusal) = nothing 3 setting.facts
 
 -- to open an account and to close it takes no serial
 enable_lifts : (setting : Setting) (name : List ℕ) (user : Result UserId Refusal)
-    → Lifts 2 setting.facts (settled setting.facts None (answer_to_enable name) user).added
-enable_lifts setting name (Ok user) = lifts 2 setting.facts _ (omega arith) (omega arith) refl
-enable_lifts setting name (Err refusal) = nothing 2 setting.facts
+    → Lifts 3 setting.facts (settled setting.facts None (answer_to_enable name) user).added
+enable_lifts setting name (Ok user) = lifts 3 setting.facts _ (omega arith) (omega arith) refl
+enable_lifts setting name (Err refusal) = nothing 3 setting.facts
 
 disable_lifts : (setting : Setting) (name : List ℕ) (user : Result UserId Refusal)
-    → Lifts 2 setting.facts (settled setting.facts None (answer_to_disable name) user).added
-disable_lifts setting name (Ok user) = lifts 2 setting.facts _ (omega arith) (omega arith) refl
-disable_lifts setting name (Err refusal) = nothing 2 setting.facts
+    → Lifts 3 setting.facts (settled setting.facts None (answer_to_disable name) user).added
+disable_lifts setting name (Ok user) = lifts 3 setting.facts _ (omega arith) (omega arith) refl
+disable_lifts setting name (Err refusal) = nothing 3 setting.facts
 
-verb_raises : (setting : Setting) (verb : AdminVerb) (finding : Finding) → Raising 2 setting.facts (due_verb setting verb finding).added
-unfolding due_user_add due_realm_put due_set_password due_enable due_disable due_unlock
-verb_raises setting (verbs.UserAdd new) finding = raising 2 setting.facts _ (new_user_lifts setting new finding (check_new_user setting.facts new) refl)
+verb_raises : (setting : Setting) (verb : AdminVerb) (finding : Finding) → Raising 3 setting.facts (due_verb setting verb finding).added
+unfolding due_user_add due_realm_put due_set_password due_otp_set due_otp_remove due_enable due_disable due_unlock
+verb_raises setting (verbs.UserAdd new) finding = raising 3 setting.facts _ (new_user_lifts setting new finding (check_new_user setting.facts new) refl)
 verb_raises setting (verbs.RealmPut realm) finding = realm_raises setting (check_realm realm)
 verb_raises setting (verbs.SetPassword name password) finding =
-    raising 2 setting.facts _ (password_lifts setting name finding (check_user setting.facts name))
+    raising 3 setting.facts _ (password_lifts setting name finding (check_user setting.facts name))
+verb_raises setting (verbs.OtpSet name key) finding =
+    raising 3 setting.facts _ (otp_set_lifts setting name key (check_user setting.facts name))
+verb_raises setting (verbs.OtpRemove name) finding =
+    raising 3 setting.facts _ (otp_remove_lifts setting name (check_there setting.facts name))
 verb_raises setting (verbs.Enable name) finding =
-    raising 2 setting.facts _ (enable_lifts setting name (check_user setting.facts name))
+    raising 3 setting.facts _ (enable_lifts setting name (check_user setting.facts name))
 verb_raises setting (verbs.Disable name) finding =
-    raising 2 setting.facts _ (disable_lifts setting name (check_user setting.facts name))
+    raising 3 setting.facts _ (disable_lifts setting name (check_user setting.facts name))
 verb_raises setting (verbs.Unlock name) finding =
-    raising 2 setting.facts _ (enable_lifts setting name (check_open setting.facts name))
-verb_raises setting verb finding = raising 2 setting.facts [] (nothing 2 setting.facts)
+    raising 3 setting.facts _ (enable_lifts setting name (check_open setting.facts name))
+verb_raises setting verb finding = raising 3 setting.facts [] (nothing 3 setting.facts)
 
-key_raises : (setting : Setting) (verb : AdminVerb) (finding : Finding) (key : Result (Unit {0}) Refusal) → Raising 2 setting.facts (settled setting.facts None (verb_with setting verb finding) key).added
+key_raises : (setting : Setting) (verb : AdminVerb) (finding : Finding) (key : Result (Unit {0}) Refusal) → Raising 3 setting.facts (settled setting.facts None (verb_with setting verb finding) key).added
 key_raises setting verb finding (Ok key) = verb_raises setting verb finding
-key_raises setting verb finding (Err refusal) = raising 2 setting.facts [] (nothing 2 setting.facts)
+key_raises setting verb finding (Err refusal) = raising 3 setting.facts [] (nothing 3 setting.facts)
 
-pub admin_raises : (setting : Setting) (access : Access) (verb : AdminVerb) (finding : Finding) → Raising 2 setting.facts (due_admin setting access verb finding).added
+pub admin_raises : (setting : Setting) (access : Access) (verb : AdminVerb) (finding : Finding) → Raising 3 setting.facts (due_admin setting access verb finding).added
 unfolding due_admin
 admin_raises setting access verb finding = key_raises setting verb finding (check_key setting.realm access)

@@ -13,6 +13,8 @@ use Rattle.hall_answers.specs.declared.refusal.Refusal.TheVariants.{NotBuilt, Wr
 use Rattle.hall_answers.specs.Refusals.{refused, settled}
 use Rattle.hall_answers.specs.Setting.{Setting}
 use Rattle.admin_asks.specs.Closing.{due_enable, due_disable, due_unlock}
+use Rattle.admin_asks.specs.OtpRemove.{due_otp_remove}
+use Rattle.admin_asks.specs.OtpSet.{due_otp_set}
 use Rattle.admin_asks.specs.RealmPut.{due_realm_put}
 use Rattle.admin_asks.specs.SetPassword.{due_set_password}
 use Rattle.admin_asks.specs.UserAdd.{due_user_add}
@@ -31,8 +33,8 @@ due_verb setting (verbs.RealmPut realm) finding = due_realm_put setting realm
 due_verb setting (verbs.UserAdd new) finding = due_user_add setting new finding
 due_verb setting (verbs.Roles name roles) finding = not_built setting
 due_verb setting (verbs.SetPassword name password) finding = due_set_password setting name finding
-due_verb setting (verbs.OtpSet name secret) finding = not_built setting
-due_verb setting (verbs.OtpRemove name) finding = not_built setting
+due_verb setting (verbs.OtpSet name secret) finding = due_otp_set setting name secret
+due_verb setting (verbs.OtpRemove name) finding = due_otp_remove setting name
 due_verb setting (verbs.Require name action) finding = not_built setting
 due_verb setting (verbs.Enable name) finding = due_enable setting name
 due_verb setting (verbs.Disable name) finding = due_disable setting name

@@ -2,6 +2,8 @@ pub mod Account
 pub mod Admin
 pub mod Closing
 pub mod Named
+pub mod OtpRemove
+pub mod OtpSet
 pub mod Passwords
 pub mod RealmPut
 pub mod SetPassword

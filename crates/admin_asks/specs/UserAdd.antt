@@ -1,5 +1,5 @@
 -- What the adding of a user is due.
-use Rattle.std.specs.Prelude.{ℕ, ◌+◌, Bool, true, false, ◌||◌, List, [], ◌∷◌, ◌++◌, None, Result, Ok, Err, is_some, codes, decimal, if◌then◌else◌}
+use Rattle.std.specs.Prelude.{ℕ, ◌+◌, Bool, true, false, List, [], ◌∷◌, ◌++◌, None, Result, Ok, Err, is_some, codes, decimal, if◌then◌else◌}
 use Rattle.login_base.specs.declared.id.UserId.{UserId}
 use Rattle.asks.specs.declared.admin.NewUser.{NewUser}
 use Rattle.facts.specs.declared.fact.Fact.{Fact}
@@ -14,16 +14,16 @@ use Rattle.hall_answers.specs.Answers.{reply_in}
 use Rattle.hall_answers.specs.Refusals.{◌>>=◌, settled}
 use Rattle.hall_answers.specs.Setting.{Setting}
 use Rattle.account_states.specs.Count.{has_room}
-use Rattle.admin_asks.specs.Account.{account_facts}
+use Rattle.admin_asks.specs.Account.{GivenSecrets, account_facts}
 use Rattle.admin_asks.specs.Passwords.{derived}
 
 abbrev pub has_some : {A : Type 0} → List A → Bool
 has_some [] = false
 has_some (x ∷ xs) = true
 
--- neither a one-time secret nor an action can be given to a user yet
+-- no action can be given to a user yet
 unfoldable pub check_built : NewUser → Result (Unit {0}) Refusal
-check_built new = if is_some new.otp || has_some new.actions then Err NotBuilt else Ok tt
+check_built new = if has_some new.actions then Err NotBuilt else Ok tt
 
 -- no account has the name
 unfoldable pub check_name_free : List Fact → List ℕ → Result (Unit {0}) Refusal
@@ -45,12 +45,15 @@ check_new_user facts new = do
 abbrev pub user_text : List ℕ → UserId → List ℕ
 user_text name user = codes "user name=" ++ name ++ codes " id=" ++ decimal user.0
 
--- the account is added, with the password that the ask set
+abbrev pub given_by : NewUser → Finding → GivenSecrets
+given_by new finding = record { password = derived finding; otp = new.otp; recovery = None }
+
+-- the account is added, with the password and the secret of one-time codes that the ask sets
 abbrev pub answer_to_new_user : NewUser → Finding → UserId → Answer
 answer_to_new_user new finding user =
     record {
       reply = reply_in None (whats.Told (user_text new.name user));
-      added = account_facts user new.name new.roles true (derived finding);
+      added = account_facts user new.name new.roles true (given_by new finding);
     }
 
 unfoldable pub due_user_add : Setting → NewUser → Finding → Answer

@@ -4,6 +4,8 @@ ghost use Rattle.admin_asks.specs.Admin.{check_key, due_verb, due_admin};
 ghost use Rattle.admin_asks.specs.Passwords.{IsKeepable};
 
 use crate::closing::{due_disable, due_enable, due_unlock};
+use crate::otp_remove::due_otp_remove;
+use crate::otp_set::due_otp_set;
 use crate::realm_put::due_realm_put;
 use crate::set_password::due_set_password;
 use crate::user_add::due_user_add;
@@ -37,12 +39,12 @@ fn due_verb<L: Ledger>(
         AdminVerb::RealmPut { realm } => due_realm_put(setting, realm, steps),
         AdminVerb::UserAdd(new) => due_user_add(setting, new, finding, steps),
         AdminVerb::SetPassword { name, .. } => due_set_password(setting, name, finding, steps),
+        AdminVerb::OtpSet { name, secret } => due_otp_set(setting, name, secret, steps),
+        AdminVerb::OtpRemove { name } => due_otp_remove(setting, name, steps),
         AdminVerb::Enable { name } => due_enable(setting, name, steps),
         AdminVerb::Disable { name } => due_disable(setting, name, steps),
         AdminVerb::Unlock { name } => due_unlock(setting, name, steps),
         AdminVerb::Roles { .. }
-        | AdminVerb::OtpSet { .. }
-        | AdminVerb::OtpRemove { .. }
         | AdminVerb::Require { .. }
         | AdminVerb::Token { .. }
         | AdminVerb::Revoke { .. }

@@ -5,7 +5,10 @@
 mod account;
 mod admin;
 mod closing;
+mod given_secrets;
 mod named;
+mod otp_remove;
+mod otp_set;
 mod passwords;
 mod realm_put;
 mod set_password;
@@ -13,3 +16,4 @@ mod user_add;
 
 pub use account::add_account;
 pub use admin::due_admin;
+pub use given_secrets::GivenSecrets;

@@ -4,6 +4,7 @@ ghost use Rattle.admin_asks.specs.Passwords.{IsKeepable};
 ghost use Rattle.admin_asks.specs.UserAdd.{check_built, check_name_free, check_room, check_new_user, user_text, answer_to_new_user, due_user_add};
 
 use crate::account::add_account;
+use crate::given_secrets::GivenSecrets;
 use crate::passwords::derived;
 use account_states::has_room;
 use fact_scans::{account_named, last_stored_serial};
@@ -13,12 +14,12 @@ use login_base::{Memory, Name, Sequence, Steps, UserId};
 use std::alloc::Global;
 use std::sync::ledger::Ledger;
 
-/// Neither a one-time secret nor an action can be given to a user yet.
+/// No action can be given to a user yet.
 #[tactic(auto, unfolding(crate::specs::UserAdd::check_built))]
 fn check_built(new: &NewUser) -> Result<(), Refusal>
     ensures { result ≡ check_built new.now }
 {
-    if new.otp.is_some() || !new.actions.is_empty() {
+    if !new.actions.is_empty() {
         return Err(Refusal::NotBuilt);
     }
     Ok(())
@@ -91,7 +92,7 @@ fn user_text(alloc: Global, name: &Name, user: UserId) -> Result<Sequence<u8>, M
     Ok(Sequence::from_vec(text))
 }
 
-/// The account is added, with the password that the ask set.
+/// The account is added, with the password and the secret of one-time codes that the ask sets.
 fn answer_to_new_user(
     alloc: Global,
     new: &NewUser,
@@ -99,15 +100,17 @@ fn answer_to_new_user(
     user: UserId,
 ) -> Result<Answer, Memory>
     requires keepable { IsKeepable finding.now }
-    requires serial { user.0 < 2 ^ 64 - 1 }
+    requires serial { user.0 < 2 ^ 64 - 4 }
     ensures { IfOk result (λ answer. answer ≡ answer_to_new_user new.now finding.now user) }
 {
     let text = user_text(alloc, &new.name, user)?;
     let mut added = Sequence::new(alloc);
-    let password = derived(finding);
-    add_account(
-        alloc, &mut added, user, &new.name, &new.roles, true, &password,
-    )?;
+    let given = GivenSecrets {
+        password: derived(finding),
+        otp: &new.otp,
+        recovery: &None,
+    };
+    add_account(alloc, &mut added, user, &new.name, &new.roles, true, &given)?;
     Ok(Answer::plain(What::Told { text }, added))
 }
 

@@ -1,5 +1,5 @@
 -- A fact that doesn't concern a tab leaves what is known of it.
-use Rattle.std.proofs.Common.{◌≡◌, ℕ, ◌<◌, true, false, List, [], ◌∷◌, Option, Some, None, ◌==◌, refl, ap, sym, ◌∙◌, ◌++◌, length, get_or, slice_get, map, option_map}
+use Rattle.std.proofs.Common.{◌≡◌, ℕ, ◌<◌, false, List, Option, Some, None, ◌==◌, refl, ap, sym, ◌∙◌, ◌++◌, length, get_or, slice_get, map, option_map}
 use Rattle.std.proofs.lemmas.Option.{slice_get-map, slice_get-get_or, same_Some}
 use Rattle.std.proofs.lemmas.List.{map-append}
 use Rattle.login_base.specs.IdText.{same_id}

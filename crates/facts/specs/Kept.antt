@@ -2,8 +2,7 @@
 use Rattle.std.specs.Prelude.{◌≡◌, ℕ, List, Option, map}
 use Rattle.realm_data.specs.declared.realm_parts.RealmParts.{RealmParts}
 use Rattle.facts.specs.declared.fact.Fact.{Fact}
-use Rattle.facts.specs.Places.{last_of}
-use Rattle.facts.specs.Realms.{current_realm, last_version, realm_put}
+use Rattle.facts.specs.Realms.{current_realm, last_version}
 use Rattle.facts.specs.Serials.{last_tab_serial, last_stored_serial, last_known_serial}
 use Rattle.facts.specs.Subjects.{subject_of}
 use Rattle.facts.specs.declared.subject.Subject.{Subject}

@@ -1,5 +1,5 @@
 -- What stands last in a list, and what stands behind it.
-use Rattle.std.specs.Prelude.{List, [], ◌∷◌, Option, Some, None, is_some, if◌then◌else◌}
+use Rattle.std.specs.Prelude.{List, [], ◌∷◌, Option, None, is_some, if◌then◌else◌}
 use Rattle.std.specs.Option.{option_or}
 
 -- the last value that is picked

@@ -1,5 +1,5 @@
 -- Of what a fact can say something.
-use Rattle.std.specs.Prelude.{ℕ, Bool, true, false, ◌&&◌, ◌==◌, Option, Some, None}
+use Rattle.std.specs.Prelude.{ℕ, Bool, true, false, ◌&&◌, ◌==◌, Some, None}
 use Rattle.login_base.specs.declared.id.RootKey.{RootKey}
 use Rattle.login_base.specs.declared.id.TabKey.{TabKey}
 use Rattle.login_base.specs.declared.id.UserId.{UserId}
@@ -59,11 +59,6 @@ is_account subject = false
 abbrev pub is_of_user : UserId → Subject → Bool
 is_of_user user (subjects.User serial) = serial == user.0
 is_of_user user subject = false
-
--- it is about a login of the user, in any tab
-abbrev pub is_login_of : UserId → Subject → Bool
-is_login_of user (subjects.Login tab serial) = serial == user.0
-is_login_of user subject = false
 
 -- it is about a login of the user in the tab
 abbrev pub is_login_in : TabKey → UserId → Subject → Bool

@@ -1,5 +1,5 @@
 ghost use Rattle.std.specs.Prelude.{◌≡◌};
-ghost use Rattle.facts.specs.Subjects.{subject_of, concerns, is_realm, is_account, is_of_user, is_login_of, is_login_in, is_of_secret, is_other};
+ghost use Rattle.facts.specs.Subjects.{subject_of, concerns, is_realm, is_account, is_of_user, is_login_in, is_of_secret, is_other};
 
 use crate::fact::Fact;
 use login_base::{RootKey, TabKey, UserId};
@@ -94,13 +94,6 @@ impl Subject {
         ensures value { result ≡ is_of_user user self }
     {
         matches!(self, Subject::User(serial) if serial == user.0)
-    }
-
-    /// Whether it is a login of the user, in any tab.
-    pub fn is_login_of(self, user: UserId) -> bool
-        ensures value { result ≡ is_login_of user self }
-    {
-        matches!(self, Subject::Login { user: serial, .. } if serial == user.0)
     }
 
     /// Whether it is a login of the user in the tab.

@@ -30,6 +30,7 @@ what_of facts refusals.WrongKey = whats.AdminRefused rules.WrongKey
 what_of facts refusals.UserTaken = whats.AdminRefused rules.UserTaken
 what_of facts refusals.TooManyUsers = whats.AdminRefused rules.TooManyUsers
 what_of facts refusals.NoSuchUser = whats.AdminRefused rules.NoSuchUser
+what_of facts refusals.NothingThere = whats.AdminRefused rules.NothingThere
 what_of facts refusals.AccountDisabled = whats.AdminRefused rules.AccountDisabled
 what_of facts refusals.RealmRefused = whats.AdminRefused rules.RealmRefused
 what_of facts refusals.NotYet = whats.AdminRefused rules.NotYet

@@ -13,6 +13,8 @@ pub enum Refusal {
     TooManyUsers,
     /// No account has the name.
     NoSuchUser,
+    /// The user has no secret of one-time codes to take away.
+    NothingThere,
     /// The account is closed, which takes more than an unlock to open.
     AccountDisabled,
     /// The text is no realm.

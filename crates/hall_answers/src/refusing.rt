@@ -50,6 +50,9 @@ fn what_of<L: Ledger>(
         Refusal::NoSuchUser => What::AdminRefused {
             rule: Rule::NoSuchUser,
         },
+        Refusal::NothingThere => What::AdminRefused {
+            rule: Rule::NothingThere,
+        },
         Refusal::AccountDisabled => What::AdminRefused {
             rule: Rule::AccountDisabled,
         },

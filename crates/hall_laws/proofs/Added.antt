@@ -42,28 +42,32 @@ use Rattle.tab_asks.specs.declared.check.Check.{Check}
 use Rattle.tab_asks.specs.declared.check.Check.TheVariants as checks
 use Rattle.tab_asks.specs.NewTab.{check_new_tab, facts_opened, opening_fact, tab_opened, new_tab_answer, due_new_tab}
 use Rattle.tab_asks.specs.Pages.{page_fact, session_for, session_fact, completion, progress_answer, tab_answer, tab_answer_then, visit_answer, due_page}
-use Rattle.tab_asks.specs.Post.{check_post, check_form, check_of, name_check, password_check, evidence_by, known_over, failure_of, answer_to_accepted, answer_to_wrong, answer_to_check, post_where, post_by, post_in, due_post}
+use Rattle.tab_asks.specs.Post.{check_post, check_form, check_of, name_check, password_check, evidence_by, known_over, answer_to_accepted, shown_again, answer_to_check, post_where, post_by, post_in, due_post}
 use Rattle.tab_asks.specs.Forms.{named_by, target_of, concerned}
 use Rattle.tab_asks.specs.Visit.{check_tab, check_visit, check_account}
-use Rattle.admin_asks.specs.Account.{account_facts, password_facts}
+use Rattle.realm_data.specs.PasswordHash.{HashedPassword}
+use Rattle.admin_asks.specs.Account.{GivenSecrets, password_facts, otp_facts, recovery_facts, count, secret_facts}
 use Rattle.admin_asks.specs.Closing.{answer_to_enable, answer_to_disable, due_enable, due_disable, check_open, due_unlock}
 use Rattle.admin_asks.specs.Named.{check_user}
+use Rattle.admin_asks.specs.OtpRemove.{check_there, removal, answer_to_otp_remove, due_otp_remove}
+use Rattle.admin_asks.specs.OtpSet.{answer_to_otp_set, due_otp_set}
 use Rattle.admin_asks.specs.Passwords.{derived}
 use Rattle.admin_asks.specs.SetPassword.{answer_to_set_password, due_set_password}
 use Rattle.admin_asks.specs.RealmPut.{check_realm, answer_to_realm, due_realm_put}
 use Rattle.admin_asks.specs.Admin.{check_key, due_verb, verb_with, due_admin}
-use Rattle.admin_asks.specs.UserAdd.{check_new_user, answer_to_new_user, due_user_add}
+use Rattle.admin_asks.specs.UserAdd.{check_new_user, given_by, answer_to_new_user, due_user_add}
 use Rattle.login_hall.specs.Due.{due_ask}
 use Rattle.login_progress.specs.PasswordFor.{password_for}
 use Rattle.asks.specs.declared.ask.Form.{Form}
 use Rattle.asks.specs.declared.ask.Form.TheVariants as forms
 use Rattle.asks.specs.declared.reply.Need.{Need}
 use Rattle.facts.specs.Accounts.{account_named}
+use Rattle.hall_laws.proofs.CodeChecks.{failing, code_fails}
 use Rattle.hall_laws.proofs.PostReadiness.{is_current, is_fitting}
 use Rattle.hall_laws.specs.AskedEvidence.{is_post}
 use Rattle.hall_laws.specs.Ready.{IsAccepted, asked_at}
 
--- it holds of each fact that asks add, but for evidence and failures
+-- it holds of each fact that asks add, but for evidence, what it spends, and failures
 pub record Allows (P : Fact → Type 0) : Type 0 where
   pub page : (tab : TabKey) (code : Code) → P (page_fact tab code)
   pub seen : (session : SessionId) (moment : ℕ) → P (events.Seen session moment)
@@ -82,44 +86,45 @@ AllowsFailures P setting = (user : UserId) → check_account setting.facts setti
 
 -- ---- whose failure counts
 
-name_wrong : (named : Option UserId) (user : UserId) → name_check named ≡ checks.Wrong (Some user) → named ≡ Some user
-name_wrong (Some other) user h = absurd cc
-name_wrong None user h = absurd cc
+name_fails : (named : Option UserId) (user : UserId) → failing (name_check named) ≡ Some user → named ≡ Some user
+name_fails (Some other) user h = absurd cc
+name_fails None user h = absurd cc
 
-password_wrong : (target : Option UserId) (password : Option UserPassword) (finding : Finding) (user : UserId)
-    → password_check target password finding ≡ checks.Wrong (Some user) → target ≡ Some user
+password_fails : (target : Option UserId) (password : Option UserPassword) (finding : Finding) (user : UserId)
+    → failing (password_check target password finding) ≡ Some user → target ≡ Some user
 unfolding password_check
-password_wrong None password finding user h = absurd cc
-password_wrong (Some other) None finding user h = cc
-password_wrong (Some other) (Some kept) (findings.Checked had true) user h = absurd cc
-password_wrong (Some other) (Some kept) (findings.Checked had false) user h = cc
-password_wrong (Some other) (Some kept) finding user h = cc
+password_fails None password finding user h = absurd cc
+password_fails (Some other) None finding user h = h
+password_fails (Some other) (Some kept) (findings.Checked had true) user h = absurd cc
+password_fails (Some other) (Some kept) (findings.Checked had false) user h = h
+password_fails (Some other) (Some kept) finding user h = h
 
 -- it is that of the user concerned
-wrong_concerned : (facts : List Fact) (who : Option UserId) (password : Option UserPassword) (form : Form) (finding : Finding) (user : UserId)
-    → check_of (named_by facts form) (target_of (named_by facts form) who form) password form finding ≡ checks.Wrong (Some user)
-    → concerned (named_by facts form) who ≡ Some user
-wrong_concerned facts who password (forms.Username execution name) finding user h = rw (name_wrong (account_named name facts) user h) refl
-wrong_concerned facts who password (forms.NamePassword execution name given) finding user h = rw (password_wrong (account_named name facts) password finding user h) refl
-wrong_concerned facts who password (forms.Password execution given) finding user h = password_wrong who password finding user h
-wrong_concerned facts who password (forms.Value execution value) finding user h = let e = password_wrong None password finding user h in absurd cc
-wrong_concerned facts who password forms.Terms finding user h = let e = password_wrong None password finding user h in absurd cc
-wrong_concerned facts who password (forms.UpdatePassword given) finding user h = let e = password_wrong None password finding user h in absurd cc
-wrong_concerned facts who password (forms.ConfigureOtp value) finding user h = let e = password_wrong None password finding user h in absurd cc
-wrong_concerned facts who password forms.RecoveryCodes finding user h = let e = password_wrong None password finding user h in absurd cc
-wrong_concerned facts who password forms.VerifyEmail finding user h = let e = password_wrong None password finding user h in absurd cc
+fails_concerned : (setting : Setting) (asked : List Need) (who : Option UserId) (password : Option UserPassword) (form : Form) (finding : Finding) (user : UserId)
+    → failing (check_of setting asked (named_by setting.facts form) who password form finding) ≡ Some user
+    → concerned (named_by setting.facts form) who ≡ Some user
+fails_concerned setting asked who password (forms.Username execution name) finding user h = rw (name_fails (account_named name setting.facts) user h) refl
+fails_concerned setting asked who password (forms.NamePassword execution name given) finding user h = rw (password_fails (account_named name setting.facts) password finding user h) refl
+fails_concerned setting asked who password (forms.Password execution given) finding user h = password_fails who password finding user h
+fails_concerned setting asked who password (forms.Value execution value) finding user h = code_fails setting asked who execution value user h
+fails_concerned setting asked who password forms.Terms finding user h = absurd cc
+fails_concerned setting asked who password (forms.UpdatePassword given) finding user h = absurd cc
+fails_concerned setting asked who password (forms.ConfigureOtp value) finding user h = absurd cc
+fails_concerned setting asked who password forms.RecoveryCodes finding user h = absurd cc
+fails_concerned setting asked who password forms.VerifyEmail finding user h = absurd cc
 
 -- and the account of that user is open
-wrong_open : (setting : Setting) (post : Post) (finding : Finding) (known : KnownTab) (named : Option UserId) (asked : List Need) (user : UserId)
+fails_open : (setting : Setting) (post : Post) (finding : Finding) (known : KnownTab) (named : Option UserId) (asked : List Need) (check : Check) (user : UserId)
     → check_post setting.facts setting.moment known post ≡ Ok named
-    → check_form setting.facts setting.moment known asked named post.form finding ≡ Ok (checks.Wrong (Some user))
+    → check_form setting known asked named post.form finding ≡ Ok check → failing check ≡ Some user
     → check_account setting.facts setting.moment (Some user) ≡ Ok tt
-wrong_open setting post finding known named asked user is_named fits =
+fails_open setting post finding known named asked check user is_named fits fails =
     let who = who_of setting.moment known.state in
     let current = is_current setting.facts setting.moment known post named is_named in
-    let fitting = is_fitting setting.facts setting.moment known asked named post.form finding (checks.Wrong (Some user)) fits in
-    let is = wrong_concerned setting.facts who _ post.form finding user
-    (subst (λ (n : Option UserId). check_of n (target_of n who post.form) (password_for setting.facts (target_of n who post.form)) post.form finding ≡ checks.Wrong (Some user)) (sym current.is_named) fitting.is_check) in
+    let fitting = is_fitting setting known asked named post.form finding check fits in
+    let is = fails_concerned setting asked who (password_for setting.facts (target_of (named_by setting.facts post.form) who post.form)) post.form finding user
+    (subst (λ (n : Option UserId). failing (check_of setting asked n who (password_for setting.facts (target_of n who post.form)) post.form finding) ≡ Some user) (sym current.is_named)
+    (ap failing fitting.is_check ∙ fails)) in
     let whose : concerned named who ≡ Some user = ap (λ (n : Option UserId). concerned n who) (sym current.is_named) ∙ is in
     subst (λ (u : Option UserId). check_account setting.facts setting.moment u ≡ Ok tt) whose fitting.account
 
@@ -151,7 +156,7 @@ module _ (P : Fact → Type 0) (allows : Allows P) where
   progress_all facts setting known (progresses.NotConfigured execution) = All-nil P
   progress_all facts setting known progresses.DeadEnd = All-nil P
 
-  tab_all : (facts : List Fact) (setting : Setting) (known : KnownTab) → All P (tab_answer facts setting known).added
+  pub tab_all : (facts : List Fact) (setting : Setting) (known : KnownTab) → All P (tab_answer facts setting known).added
   unfolding tab_answer
   tab_all facts setting known = progress_all facts setting known (progress_of facts setting.moment known)
 
@@ -177,9 +182,9 @@ module _ (P : Fact → Type 0) (allows : Allows P) where
 
   -- ---- posts
 
-  wrong_all : (setting : Setting) (tab : TabKey) (user : Option UserId)
+  pub wrong_all : (setting : Setting) (tab : TabKey) (user : Option UserId)
       → ((failing : UserId) → user ≡ Some failing → P (events.Failed failing setting.moment))
-      → All P (failure_of user setting.moment ++ page_fact tab (next_code setting.facts setting.draws) ∷ [])
+      → All P (shown_again setting tab user)
   wrong_all setting tab None failed = page_alone tab (next_code setting.facts setting.draws)
   wrong_all setting tab (Some user) failed =
       let code = next_code setting.facts setting.draws in
@@ -189,18 +194,21 @@ module _ (P : Fact → Type 0) (allows : Allows P) where
       (failed : AllowsFailures P setting)
       (evidence : (accepted : IsAccepted setting post finding) → All P (evidence_by setting accepted.known post.form accepted.user accepted.credential)) where
     check_all : (known : KnownTab) (named : Option UserId) (check : Check) → check_tab setting.facts post.root post.tab ≡ Ok known → check_post setting.facts setting.moment known post ≡ Ok named
-        → check_form setting.facts setting.moment known (asked_at setting known) named post.form finding ≡ Ok check
+        → check_form setting known (asked_at setting known) named post.form finding ≡ Ok check
         → All P (answer_to_check setting known (asked_at setting known) post.form check).added
-    unfolding answer_to_check answer_to_accepted answer_to_wrong
+    unfolding answer_to_check answer_to_accepted
     check_all known named (checks.Fits user credential) is_known is_named fits =
         let accepted : IsAccepted setting post finding = record { known = known; is_known = is_known; named = named; is_named = is_named; user = user; credential = credential; fits = fits } in
         let added = evidence_by setting known post.form user credential in
         let more = setting.facts ++ added in
         All-append P added (tab_answer more setting (known_over known more)).added (evidence accepted) (tab_all more setting (known_over known more))
     check_all known named (checks.Wrong user) is_known is_named fits =
-        wrong_all setting known.tab user (λ failing is.
-        let whose = subst (λ (u : Option UserId). check_form setting.facts setting.moment known (asked_at setting known) named post.form finding ≡ Ok (checks.Wrong u)) is fits in
-        failed failing (wrong_open setting post finding known named (asked_at setting known) failing is_named whose))
+        wrong_all setting known.tab user (λ own is.
+        failed own (fails_open setting post finding known named (asked_at setting known) (checks.Wrong user) own is_named fits is))
+    check_all known named (checks.WrongCode user) is_known is_named fits =
+        wrong_all setting known.tab user (λ own is.
+        failed own (fails_open setting post finding known named (asked_at setting known) (checks.WrongCode user) own is_named fits is))
+    check_all known named (checks.SpentCode step) is_known is_named fits = wrong_all setting known.tab None (λ own is. absurd cc)
 
     pub post_all : All P (due_post setting post finding).added
     unfolding due_post post_in post_where
@@ -209,27 +217,40 @@ module _ (P : Fact → Type 0) (allows : Allows P) where
         settled_all facts None (post_in setting post finding) (check_tab facts post.root post.tab) (λ known is_known.
         settled_all facts (Some known.tab) (post_by setting post.form finding known) (check_post facts setting.moment known post) (λ named is_named.
         let asked = asked_at setting known in
-        settled_all facts (Some known.tab) (answer_to_check setting known asked post.form) (check_form facts setting.moment known asked named post.form finding) (λ check is.
+        settled_all facts (Some known.tab) (answer_to_check setting known asked post.form) (check_form setting known asked named post.form finding) (λ check is.
         check_all known named check is_known is_named is)))
 
   -- ---- administrators
 
-  password_all : (user : UserId) (serial : ℕ) (finding : Finding) → All P (password_facts user serial (derived finding))
-  password_all user serial (findings.Derived salt count digest) =
-      let secret : Secret = secrets.Password (record { salt = salt; iterations = count; digest = digest }) in
-      All-cons P (events.SecretSet user kinds.Password serial secret None) [] (allows.secret_set user kinds.Password serial secret None) (All-nil P)
-  password_all user serial (findings.Checked had fits) = All-nil P
-  password_all user serial findings.None = All-nil P
+  password_all : (user : UserId) (serial : ℕ) (password : Option HashedPassword) → All P (password_facts user serial password)
+  password_all user serial None = All-nil P
+  password_all user serial (Some hash) =
+      All-cons P (events.SecretSet user kinds.Password serial (secrets.Password hash) None) [] (allows.secret_set user kinds.Password serial (secrets.Password hash) None) (All-nil P)
 
-  account_all : (user : UserId) (name : List ℕ) (roles : List (List ℕ)) (finding : Finding) → All P (account_facts user name roles true (derived finding))
-  account_all user name roles finding =
-      All-cons P (events.UserPut user name roles) (password_facts user (user.0 + 1) (derived finding)) (allows.user_put user name roles)
-      (password_all user (user.0 + 1) finding)
+  otp_all : (user : UserId) (serial : ℕ) (otp : Option (List ℕ)) → All P (otp_facts user serial otp)
+  otp_all user serial None = All-nil P
+  otp_all user serial (Some key) =
+      All-cons P (events.SecretSet user kinds.Otp serial (secrets.Otp key) None) [] (allows.secret_set user kinds.Otp serial (secrets.Otp key) None) (All-nil P)
+
+  recovery_all : (user : UserId) (serial : ℕ) (recovery : Option (List (List ℕ))) → All P (recovery_facts user serial recovery)
+  recovery_all user serial None = All-nil P
+  recovery_all user serial (Some digests) =
+      All-cons P (events.SecretSet user kinds.Recovery serial (secrets.Recovery digests) None) [] (allows.secret_set user kinds.Recovery serial (secrets.Recovery digests) None) (All-nil P)
+
+  secrets_all : (user : UserId) (last : ℕ) (given : GivenSecrets) → All P (secret_facts user last given)
+  secrets_all user last given =
+      let first = password_facts user (last + 1) given.password in
+      let second = otp_facts user (last + count given.password + 1) given.otp in
+      let third = recovery_facts user (last + count given.password + count given.otp + 1) given.recovery in
+      All-append P first (second ++ third) (password_all user (last + 1) given.password)
+      (All-append P second third (otp_all user (last + count given.password + 1) given.otp) (recovery_all user (last + count given.password + count given.otp + 1) given.recovery))
 
   user_all : (setting : Setting) (new : NewUser) (finding : Finding) → All P (due_user_add setting new finding).added
   unfolding due_user_add
   user_all setting new finding =
-      settled_all setting.facts None (answer_to_new_user new finding) (check_new_user setting.facts new) (λ user is. account_all user new.name new.roles finding)
+      settled_all setting.facts None (answer_to_new_user new finding) (check_new_user setting.facts new) (λ user is.
+      All-cons P (events.UserPut user new.name new.roles) (secret_facts user user.0 (given_by new finding)) (allows.user_put user new.name new.roles)
+      (secrets_all user user.0 (given_by new finding)))
 
   realm_all : (setting : Setting) (realm : Option RealmParts) → All P (due_realm_put setting realm).added
   unfolding due_realm_put
@@ -242,7 +263,19 @@ module _ (P : Fact → Type 0) (allows : Allows P) where
   unfolding due_set_password
   set_password_all setting name finding =
       settled_all setting.facts None (answer_to_set_password setting.facts name finding) (check_user setting.facts name) (λ user is.
-      password_all user (last_stored_serial setting.facts + 1) finding)
+      password_all user (last_stored_serial setting.facts + 1) (derived finding))
+
+  otp_set_all : (setting : Setting) (name key : List ℕ) → All P (due_otp_set setting name key).added
+  unfolding due_otp_set
+  otp_set_all setting name key =
+      settled_all setting.facts None (answer_to_otp_set setting.facts name key) (check_user setting.facts name) (λ user is.
+      otp_all user (last_stored_serial setting.facts + 1) (Some key))
+
+  otp_remove_all : (setting : Setting) (name : List ℕ) → All P (due_otp_remove setting name).added
+  unfolding due_otp_remove
+  otp_remove_all setting name =
+      settled_all setting.facts None (answer_to_otp_remove name) (check_there setting.facts name) (λ user is.
+      All-cons P (removal user) [] (allows.secret_set user kinds.Otp 0 secrets.Gone None) (All-nil P))
 
   enable_all : (setting : Setting) (name : List ℕ) (user : Result UserId Refusal) → All P (settled setting.facts None (answer_to_enable name) user).added
   enable_all setting name user =
@@ -260,8 +293,8 @@ module _ (P : Fact → Type 0) (allows : Allows P) where
   verb_all setting (verbs.UserAdd new) finding = user_all setting new finding
   verb_all setting (verbs.Roles name roles) finding = All-nil P
   verb_all setting (verbs.SetPassword name password) finding = set_password_all setting name finding
-  verb_all setting (verbs.OtpSet name secret) finding = All-nil P
-  verb_all setting (verbs.OtpRemove name) finding = All-nil P
+  verb_all setting (verbs.OtpSet name secret) finding = otp_set_all setting name secret
+  verb_all setting (verbs.OtpRemove name) finding = otp_remove_all setting name
   verb_all setting (verbs.Require name action) finding = All-nil P
   verb_all setting (verbs.Enable name) finding = enable_all setting name (check_user setting.facts name)
   verb_all setting (verbs.Disable name) finding = disable_all setting name

@@ -18,6 +18,7 @@ use Rattle.login_progress.specs.declared.known_tab.KnownTab.{KnownTab}
 use Rattle.login_progress.specs.PasswordFor.{password_for}
 use Rattle.tab_asks.specs.declared.check.Check.{Check}
 use Rattle.tab_asks.specs.declared.check.Check.TheVariants as checks
+use Rattle.tab_asks.specs.Codes.{code_check}
 use Rattle.tab_asks.specs.Forms.{target_of, concerned}
 use Rattle.tab_asks.specs.Post.{check_post, check_form, check_asked, check_credential, check_of, name_check, password_check, answer_to_check, post_where, post_in, due_post}
 use Rattle.tab_asks.specs.Visit.{check_tab, check_account}
@@ -29,10 +30,15 @@ use Rattle.hall_laws.specs.Ready.{IsAccepted, asked_at}
 abbrev Same : Check → Check → Type 0
 Same (checks.Fits user credential) other = Unit {0}
 Same (checks.Wrong user) other = other ≡ checks.Wrong user
+Same (checks.WrongCode user) other = other ≡ checks.WrongCode user
+Same (checks.SpentCode step) other = other ≡ checks.SpentCode step
 
-same_name : (named : Option UserId) → Same (name_check named) (name_check named)
-same_name None = refl
-same_name (Some user) = tt
+-- what doesn't ask the finding comes to the same
+alike : (check : Check) → Same check check
+alike (checks.Fits user credential) = tt
+alike (checks.Wrong user) = refl
+alike (checks.WrongCode user) = refl
+alike (checks.SpentCode step) = refl
 
 same_password : (target : Option UserId) (password : Option UserPassword) (had : ℕ) → Same (password_check target password (Checked had true)) (password_check target password (Checked had false))
 unfolding password_check
@@ -40,49 +46,52 @@ same_password None password had = refl
 same_password (Some user) None had = refl
 same_password (Some user) (Some kept) had = tt
 
-same_check : (named target : Option UserId) (password : Option UserPassword) (form : Form) (had : ℕ)
-    → Same (check_of named target password form (Checked had true)) (check_of named target password form (Checked had false))
-same_check named target password (forms.Username execution name) had = same_name named
-same_check named target password (forms.Password execution given) had = same_password target password had
-same_check named target password (forms.NamePassword execution name given) had = same_password target password had
-same_check named target password (forms.Value execution value) had = same_password target password had
-same_check named target password forms.Terms had = same_password target password had
-same_check named target password (forms.UpdatePassword given) had = same_password target password had
-same_check named target password (forms.ConfigureOtp value) had = same_password target password had
-same_check named target password forms.RecoveryCodes had = same_password target password had
-same_check named target password forms.VerifyEmail had = same_password target password had
+same_check : (setting : Setting) (asked : List Need) (named who : Option UserId) (password : Option UserPassword) (form : Form) (had : ℕ)
+    → Same (check_of setting asked named who password form (Checked had true)) (check_of setting asked named who password form (Checked had false))
+same_check setting asked named who password (forms.Username execution name) had = alike (name_check named)
+same_check setting asked named who password (forms.Password execution given) had = same_password who password had
+same_check setting asked named who password (forms.NamePassword execution name given) had = same_password named password had
+same_check setting asked named who password (forms.Value execution value) had = alike (code_check setting asked who execution value)
+same_check setting asked named who password forms.Terms had = refl
+same_check setting asked named who password (forms.UpdatePassword given) had = refl
+same_check setting asked named who password (forms.ConfigureOtp value) had = refl
+same_check setting asked named who password forms.RecoveryCodes had = refl
+same_check setting asked named who password forms.VerifyEmail had = refl
 
 -- ---- the same behind what may refuse
 
 abbrev Sames : Result Check Refusal → Result Check Refusal → Type 0
 Sames (Ok (checks.Fits user credential)) other = Unit {0}
 Sames (Ok (checks.Wrong user)) other = other ≡ Ok (checks.Wrong user)
+Sames (Ok (checks.WrongCode user)) other = other ≡ Ok (checks.WrongCode user)
+Sames (Ok (checks.SpentCode step)) other = other ≡ Ok (checks.SpentCode step)
 Sames (Err refusal) other = other ≡ Err refusal
 
 same_ok : (one other : Check) → Same one other → Sames (Ok one) (Ok other)
 same_ok (checks.Fits user credential) other h = tt
 same_ok (checks.Wrong user) other h = ap Ok h
+same_ok (checks.WrongCode user) other h = ap Ok h
+same_ok (checks.SpentCode step) other h = ap Ok h
 
 same_behind : (first : Result (Unit {0}) Refusal) (one other : Unit {0} → Result Check Refusal) → Sames (one tt) (other tt) → Sames (first >>= one) (first >>= other)
 same_behind (Ok u) one other h = h
 same_behind (Err refusal) one other h = refl
 
-same_form : (facts : List Fact) (moment : ℕ) (known : KnownTab) (asked : List Need) (named : Option UserId) (form : Form) (had : ℕ)
-    → Sames (check_form facts moment known asked named form (Checked had true)) (check_form facts moment known asked named form (Checked had false))
+same_form : (setting : Setting) (known : KnownTab) (asked : List Need) (named : Option UserId) (form : Form) (had : ℕ)
+    → Sames (check_form setting known asked named form (Checked had true)) (check_form setting known asked named form (Checked had false))
 unfolding check_form check_credential
-same_form facts moment known asked named form had =
-    let who = who_of moment known.state in
-    let target = target_of named who form in
-    let password = password_for facts target in
+same_form setting known asked named form had =
+    let who = who_of setting.moment known.state in
+    let password = password_for setting.facts (target_of named who form) in
     same_behind (check_asked asked form) _ _
-    (same_behind (check_account facts moment (concerned named who)) _ _
-    (same_behind (check_credential password (Checked had true)) _ _ (same_ok _ _ (same_check named target password form had))))
+    (same_behind (check_account setting.facts setting.moment (concerned named who)) _ _
+    (same_behind (check_credential password (Checked had true)) _ _ (same_ok _ _ (same_check setting asked named who password form had))))
 
 -- ---- the post
 
 module _ (setting : Setting) (post : Post) (had : ℕ) where
   abbrev form_check : Bool → KnownTab → Option UserId → Result Check Refusal
-  form_check fits known named = check_form setting.facts setting.moment known (asked_at setting known) named post.form (Checked had fits)
+  form_check fits known named = check_form setting known (asked_at setting known) named post.form (Checked had fits)
 
   -- the answer by what the form's check comes to
   abbrev by_check : KnownTab → Result Check Refusal → Answer
@@ -102,6 +111,10 @@ module _ (setting : Setting) (post : Post) (had : ℕ) where
       inl (record { known = known; is_known = is_known; named = named; is_named = is_named; user = user; credential = credential; fits = fits })
   form_counts known named (Ok (checks.Wrong user)) is_known is_named fits same =
       inr (due_by true known named is_known is_named ∙ ap (by_check known) (fits ∙ sym same) ∙ sym (due_by false known named is_known is_named))
+  form_counts known named (Ok (checks.WrongCode user)) is_known is_named fits same =
+      inr (due_by true known named is_known is_named ∙ ap (by_check known) (fits ∙ sym same) ∙ sym (due_by false known named is_known is_named))
+  form_counts known named (Ok (checks.SpentCode step)) is_known is_named fits same =
+      inr (due_by true known named is_known is_named ∙ ap (by_check known) (fits ∙ sym same) ∙ sym (due_by false known named is_known is_named))
   form_counts known named (Err refusal) is_known is_named fits same =
       inr (due_by true known named is_known is_named ∙ ap (by_check known) (fits ∙ sym same) ∙ sym (due_by false known named is_known is_named))
 
@@ -109,7 +122,7 @@ module _ (setting : Setting) (post : Post) (had : ℕ) where
       → check_post setting.facts setting.moment known post ≡ named → Counts
   unfolding due_post post_in
   named_counts known (Ok named) is_known is_named =
-      form_counts known named (form_check true known named) is_known is_named refl (same_form setting.facts setting.moment known (asked_at setting known) named post.form had)
+      form_counts known named (form_check true known named) is_known is_named refl (same_form setting known (asked_at setting known) named post.form had)
   named_counts known (Err refusal) is_known is_named = inr (rw (is_known, is_named) refl)
 
   known_counts : (known : Result KnownTab Refusal) → check_tab setting.facts post.root post.tab ≡ known → Counts

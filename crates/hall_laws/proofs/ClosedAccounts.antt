@@ -6,13 +6,9 @@ use Rattle.std.specs.List.{All, list_any, flat_map}
 use Rattle.std.proofs.lemmas.List.{append-nil}
 use Rattle.std.proofs.lemmas.Bool.{eqb-true}
 use Rattle.std.proofs.lemmas.List.Elements.{All-nil, All-cons, All-head, All-tail}
-use Rattle.flow_tree.specs.declared.exec.Kind.{Kind}
-use Rattle.flow_tree.specs.declared.exec.Kind.TheVariants as kinds
 use Rattle.login_base.specs.declared.id.UserId.{UserId}
 use Rattle.lockout.specs.Standing.{is_locked}
 use Rattle.asks.specs.declared.ask.Ask.{Ask}
-use Rattle.asks.specs.declared.ask.Form.{Form}
-use Rattle.asks.specs.declared.ask.Form.TheVariants as forms
 use Rattle.asks.specs.declared.finding.Finding.{Finding}
 use Rattle.facts.specs.declared.fact.Fact.{Fact}
 use Rattle.facts.specs.declared.fact.Fact.TheVariants as events
@@ -27,11 +23,11 @@ use Rattle.login_hall.specs.Growth.{chronicle_of}
 use Rattle.login_hall.specs.Legal.{LegalAfter}
 use Rattle.login_hall.proofs.Pushes.{chronicle_of-push}
 use Rattle.tab_asks.specs.declared.passing.Passing.{Passing}
-use Rattle.tab_asks.specs.Forms.{evidence_of, name_fact, evidence_fact}
 use Rattle.tab_asks.specs.Visit.{check_account}
 use Rattle.login_hall.specs.Due.{due_ask}
 use Rattle.hall_laws.specs.Closing.{opens, OpenNothing}
 use Rattle.hall_laws.proofs.Added.{Allows, ask_all}
+use Rattle.hall_laws.proofs.EvidenceFacts.{evidence_all}
 use Rattle.hall_laws.proofs.Gates.{user_is, open_is}
 
 -- ---- what asks add
@@ -71,24 +67,6 @@ moving_allows user = record {
   user_put = λ user name roles. refl;
   secret_set = λ user kind serial secret by. refl;
 }
-
-module _ (P : Fact → Type 0) (name : (passing : Passing) → P (name_fact passing))
-    (passed : (passing : Passing) (execution : List ℕ) (kind : Kind) → P (evidence_fact passing execution kind)) where
-  evidence_all : (passing : Passing) (form : Form) → All P (evidence_of passing form)
-  evidence_all passing (forms.Username execution given) =
-      All-cons P (name_fact passing) (evidence_fact passing execution kinds.Username ∷ []) (name passing)
-      (All-cons P (evidence_fact passing execution kinds.Username) [] (passed passing execution kinds.Username) (All-nil P))
-  evidence_all passing (forms.NamePassword execution given password) =
-      All-cons P (name_fact passing) (evidence_fact passing execution kinds.Form ∷ []) (name passing)
-      (All-cons P (evidence_fact passing execution kinds.Form) [] (passed passing execution kinds.Form) (All-nil P))
-  evidence_all passing (forms.Password execution password) =
-      All-cons P (evidence_fact passing execution kinds.Password) [] (passed passing execution kinds.Password) (All-nil P)
-  evidence_all passing (forms.Value execution value) = All-nil P
-  evidence_all passing forms.Terms = All-nil P
-  evidence_all passing (forms.UpdatePassword password) = All-nil P
-  evidence_all passing (forms.ConfigureOtp value) = All-nil P
-  evidence_all passing forms.RecoveryCodes = All-nil P
-  evidence_all passing forms.VerifyEmail = All-nil P
 
 -- ---- where nothing opens the account
 
@@ -130,7 +108,7 @@ module _ (setting : Setting) (ask : Ask) (finding : Finding) (user : UserId) (un
       none (renews user) user added
       (ask_all (Renewing user) (renewing_allows user) setting ask finding (λ failing opened. refl) (λ post accepted.
       let passing : Passing = record { tab = accepted.known.tab; user = accepted.user; credential = accepted.credential; moment = setting.moment } in
-      evidence_all (Renewing user) (λ p. refl) (λ p execution kind. refl) passing post.form)) unopened
+      evidence_all (Renewing user) (λ p. refl) (λ p execution kind. refl) (λ credential step. refl) (λ credential number. refl) passing post.form)) unopened
 
   closed_either : (permanent disabled : Bool) → (standing_of user setting.facts).permanent ≡ permanent → is_disabled user setting.facts ≡ disabled → (permanent || disabled) ≡ true
       → is_closed user (setting.facts ++ added) ≡ true
@@ -163,7 +141,7 @@ module _ (setting : Setting) (ask : Ask) (finding : Finding) (user : UserId) (un
         none (moves_standing user) user added
         (ask_all (Moving user) (moving_allows user) setting ask finding failing_other (λ post accepted.
         let passing : Passing = record { tab = accepted.known.tab; user = accepted.user; credential = accepted.credential; moment = setting.moment } in
-        evidence_all (Moving user) (λ p. refl) (λ p execution kind. refl) passing post.form)) unopened
+        evidence_all (Moving user) (λ p. refl) (λ p execution kind. refl) (λ credential step. refl) (λ credential number. refl) passing post.form)) unopened
 
     pub same_standing : standing_of user (setting.facts ++ added) ≡ standing_of user setting.facts
     same_standing = standing_kept user setting.facts added unmoved

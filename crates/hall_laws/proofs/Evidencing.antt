@@ -12,11 +12,14 @@ use Rattle.asks.specs.declared.ask.Form.{Form}
 use Rattle.asks.specs.declared.ask.Form.TheVariants as forms
 use Rattle.asks.specs.declared.ask.Post.{Post}
 use Rattle.facts.specs.declared.fact.Fact.{Fact}
+use Rattle.facts.specs.declared.fact.Fact.TheVariants as events
 use Rattle.asks.specs.declared.finding.Finding.{Finding}
 use Rattle.hall_answers.specs.Setting.{Setting}
+use Rattle.tab_asks.specs.declared.check.Spent.{Spent}
+use Rattle.tab_asks.specs.declared.check.Spent.TheVariants as spends
 use Rattle.tab_asks.specs.declared.passing.Passing.{Passing}
 use Rattle.flow_tree.specs.declared.exec.Kind.TheVariants as kinds
-use Rattle.tab_asks.specs.Forms.{evidence_of, name_fact, evidence_fact}
+use Rattle.tab_asks.specs.Forms.{code_evidence, evidence_of, name_fact, evidence_fact}
 use Rattle.tab_asks.specs.Post.{is_code, due_post}
 use Rattle.login_hall.specs.Due.{due_ask}
 use Rattle.hall_laws.specs.AskedEvidence.{execution_of, IsRightEvidence, IsAskedEvidence, is_evidence, is_post}
@@ -42,6 +45,18 @@ code_is code None h = absurd cc
 
 -- ---- posts
 
+code_asked : (setting : Setting) (post : Post) (passing : Passing) (execution : List ℕ) (spent : Spent) → IsRightEvidence setting post passing.tab execution
+    → All (IsAskedEvidence setting post) (code_evidence passing execution spent)
+code_asked setting post passing execution spends.Nothing right = All-nil (IsAskedEvidence setting post)
+code_asked setting post passing execution (spends.Step step) right =
+    let P : Fact → Type 0 = IsAskedEvidence setting post in
+    let spent = events.SpentStep passing.credential.serial step in
+    All-cons P (evidence_fact passing execution kinds.Otp) (spent ∷ []) right (All-cons P spent [] tt (All-nil P))
+code_asked setting post passing execution (spends.Number number) right =
+    let P : Fact → Type 0 = IsAskedEvidence setting post in
+    let spent = events.SpentRecovery passing.credential.serial number in
+    All-cons P (evidence_fact passing execution kinds.Recovery) (spent ∷ []) right (All-cons P spent [] tt (All-nil P))
+
 form_asked : (setting : Setting) (post : Post) (passing : Passing) (form : Form)
     → ((execution : List ℕ) → execution_of form ≡ Some execution → IsRightEvidence setting post passing.tab execution)
     → All (IsAskedEvidence setting post) (evidence_of passing form)
@@ -54,7 +69,7 @@ form_asked setting post passing (forms.NamePassword execution name password) rig
 form_asked setting post passing (forms.Password execution password) right =
     let P : Fact → Type 0 = IsAskedEvidence setting post in
     All-cons P (evidence_fact passing execution kinds.Password) [] (right execution refl) (All-nil P)
-form_asked setting post passing (forms.Value execution value) right = All-nil (IsAskedEvidence setting post)
+form_asked setting post passing (forms.Value execution value) right = code_asked setting post passing execution passing.credential.spent (right execution refl)
 form_asked setting post passing forms.Terms right = All-nil (IsAskedEvidence setting post)
 form_asked setting post passing (forms.UpdatePassword password) right = All-nil (IsAskedEvidence setting post)
 form_asked setting post passing (forms.ConfigureOtp value) right = All-nil (IsAskedEvidence setting post)

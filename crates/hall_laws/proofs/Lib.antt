@@ -1,12 +1,16 @@
 pub mod Added
 pub mod Checking
 pub mod ClosedAccounts
+pub mod CodeChecks
 pub mod CodeSerials
+pub mod EvidenceFacts
 pub mod Evidencing
+pub mod FreshCodes
 pub mod Gates
 pub mod PostReadiness
 pub mod Readiness
 pub mod Repeating
+pub mod SpendingOnce
 pub mod StartFacts
 pub mod TabFolds
 pub mod TabStates

@@ -28,9 +28,10 @@ use Rattle.login_progress.specs.PasswordFor.{password_for}
 use Rattle.login_progress.specs.Progress.{progress_of, asked_in}
 use Rattle.tab_asks.specs.declared.check.Check.{Check}
 use Rattle.tab_asks.specs.declared.check.Check.TheVariants as checks
+use Rattle.tab_asks.specs.declared.check.Credential.{Credential}
 use Rattle.tab_asks.specs.declared.passing.Passing.{Passing}
 use Rattle.tab_asks.specs.Forms.{named_by, target_of, concerned}
-use Rattle.tab_asks.specs.Post.{is_code, check_code, check_user, check_post, has_need, check_asked, check_credential, check_form, password_check, name_check, check_of, known_over, answer_to_accepted, answer_to_wrong, answer_to_check, post_where, post_by, post_in, due_post}
+use Rattle.tab_asks.specs.Post.{is_code, check_code, check_user, check_post, has_need, check_asked, check_credential, check_form, password_check, name_check, check_of, known_over, answer_to_accepted, answer_to_check, post_where, post_by, post_in, due_post}
 use Rattle.tab_asks.specs.Visit.{tab_in, tab_with, check_tab, check_whole, check_unfinished, check_account, user_of, same_user}
 use Rattle.hall_laws.specs.Ready.{IsReady, IsAccepted, IsReadyAfterPost, facts_accepted, done_for}
 use Rattle.hall_laws.proofs.Gates.{first_passed, test_passed, test_failed, whole_is, open_is, same_either, concerned_is, settled_done}
@@ -82,32 +83,33 @@ is_current facts moment known post named h =
     }
 
 -- what check_form found
-pub record Fitting (facts : List Fact) (moment : ℕ) (known : KnownTab) (asked : List Need) (named : Option UserId) (form : Form) (finding : Finding) (check : Check) : Type 0 where
+pub record Fitting (setting : Setting) (known : KnownTab) (asked : List Need) (named : Option UserId) (form : Form) (finding : Finding) (check : Check) : Type 0 where
   pub form_asked : has_need asked form ≡ true
-  pub account : check_account facts moment (concerned named (who_of moment known.state)) ≡ Ok tt
-  pub is_check : check_of named (target_of named (who_of moment known.state) form) (password_for facts (target_of named (who_of moment known.state) form)) form finding ≡ check
+  pub account : check_account setting.facts setting.moment (concerned named (who_of setting.moment known.state)) ≡ Ok tt
+  pub is_check :
+      check_of setting asked named (who_of setting.moment known.state) (password_for setting.facts (target_of named (who_of setting.moment known.state) form)) form finding ≡ check
 
-pub is_fitting : (facts : List Fact) (moment : ℕ) (known : KnownTab) (asked : List Need) (named : Option UserId) (form : Form) (finding : Finding) (check : Check)
-    → check_form facts moment known asked named form finding ≡ Ok check → Fitting facts moment known asked named form finding check
+pub is_fitting : (setting : Setting) (known : KnownTab) (asked : List Need) (named : Option UserId) (form : Form) (finding : Finding) (check : Check)
+    → check_form setting known asked named form finding ≡ Ok check → Fitting setting known asked named form finding check
 unfolding check_form
-is_fitting facts moment known asked named form finding check h =
-    let who = who_of moment known.state in
-    let password = password_for facts (target_of named who form) in
+is_fitting setting known asked named form finding check h =
+    let who = who_of setting.moment known.state in
+    let password = password_for setting.facts (target_of named who form) in
     let first = first_passed (check_asked asked form) _ check h in
-    let second = first_passed (check_account facts moment (concerned named who)) _ check first.1 in
+    let second = first_passed (check_account setting.facts setting.moment (concerned named who)) _ check first.1 in
     let third = first_passed (check_credential password finding) _ check second.1 in
-    let last : ◌≡◌ {A = Result Check Refusal} (Ok (check_of named (target_of named who form) password form finding)) (Ok check) = third.1 in
+    let last : ◌≡◌ {A = Result Check Refusal} (Ok (check_of setting asked named who password form finding)) (Ok check) = third.1 in
     record {
       form_asked = test_passed (has_need asked form) refusals.NotAsked first.0;
       account = second.0;
       is_check = cc;
     }
 
-pub name_fits : (named : Option UserId) (user : UserId) (credential : ℕ) → name_check named ≡ checks.Fits user credential → named ≡ Some user
+pub name_fits : (named : Option UserId) (user : UserId) (credential : Credential) → name_check named ≡ checks.Fits user credential → named ≡ Some user
 name_fits (Some other) user credential h = cc
 name_fits None user credential h = absurd cc
 
-pub password_fits : (target : Option UserId) (password : Option UserPassword) (finding : Finding) (user : UserId) (credential : ℕ)
+pub password_fits : (target : Option UserId) (password : Option UserPassword) (finding : Finding) (user : UserId) (credential : Credential)
     → password_check target password finding ≡ checks.Fits user credential → target ≡ Some user
 unfolding password_check
 password_fits None password finding user credential h = absurd cc
@@ -117,17 +119,17 @@ password_fits (Some other) (Some kept) (findings.Checked had false) user credent
 password_fits (Some other) (Some kept) finding user credential h = absurd cc
 
 -- a form that names a user names the one whom its check fits
-fits_named : (facts : List Fact) (who : Option UserId) (password : Option UserPassword) (form : Form) (finding : Finding) (user : UserId) (credential : ℕ)
-    → check_of (named_by facts form) (target_of (named_by facts form) who form) password form finding ≡ checks.Fits user credential → named_by facts form ≡ named_as user form
-fits_named facts who password (forms.Username execution name) finding user credential h = name_fits (account_named name facts) user credential h
-fits_named facts who password (forms.NamePassword execution name given) finding user credential h = password_fits (account_named name facts) password finding user credential h
-fits_named facts who password (forms.Password execution given) finding user credential h = refl
-fits_named facts who password (forms.Value execution value) finding user credential h = refl
-fits_named facts who password forms.Terms finding user credential h = refl
-fits_named facts who password (forms.UpdatePassword given) finding user credential h = refl
-fits_named facts who password (forms.ConfigureOtp value) finding user credential h = refl
-fits_named facts who password forms.RecoveryCodes finding user credential h = refl
-fits_named facts who password forms.VerifyEmail finding user credential h = refl
+fits_named : (setting : Setting) (asked : List Need) (who : Option UserId) (password : Option UserPassword) (form : Form) (finding : Finding) (user : UserId) (credential : Credential)
+    → check_of setting asked (named_by setting.facts form) who password form finding ≡ checks.Fits user credential → named_by setting.facts form ≡ named_as user form
+fits_named setting asked who password (forms.Username execution name) finding user credential h = name_fits (account_named name setting.facts) user credential h
+fits_named setting asked who password (forms.NamePassword execution name given) finding user credential h = password_fits (account_named name setting.facts) password finding user credential h
+fits_named setting asked who password (forms.Password execution given) finding user credential h = refl
+fits_named setting asked who password (forms.Value execution value) finding user credential h = refl
+fits_named setting asked who password forms.Terms finding user credential h = refl
+fits_named setting asked who password (forms.UpdatePassword given) finding user credential h = refl
+fits_named setting asked who password (forms.ConfigureOtp value) finding user credential h = refl
+fits_named setting asked who password forms.RecoveryCodes finding user credential h = refl
+fits_named setting asked who password forms.VerifyEmail finding user credential h = refl
 
 -- ---- the tab behind the evidence
 
@@ -135,7 +137,7 @@ fits_named facts who password forms.VerifyEmail finding user credential h = refl
 pub record Behind (setting : Setting) (post : Post) (finding : Finding) (accepted : IsAccepted setting post finding) : Type 0 where
   pub known : IsKnown setting.facts accepted.known
   pub current : Current setting.facts setting.moment accepted.known post accepted.named
-  pub fitting : Fitting setting.facts setting.moment accepted.known (asked_in (progress_of setting.facts setting.moment accepted.known)) accepted.named post.form finding (checks.Fits accepted.user accepted.credential)
+  pub fitting : Fitting setting accepted.known (asked_in (progress_of setting.facts setting.moment accepted.known)) accepted.named post.form finding (checks.Fits accepted.user accepted.credential)
   pub is_state : tab_state accepted.known.root accepted.known.tab (facts_accepted setting post finding accepted) ≡ with_name accepted.known.state accepted.named
 
 pub behind : (setting : Setting) (post : Post) (finding : Finding) (accepted : IsAccepted setting post finding) → Behind setting post finding accepted
@@ -144,11 +146,11 @@ behind setting post finding accepted =
     let facts = setting.facts in
     let is_known = tab_known facts post.root post.tab known accepted.is_known in
     let current = is_current facts setting.moment known post accepted.named accepted.is_named in
-    let fitting = is_fitting facts setting.moment known (asked_in (progress_of facts setting.moment known)) accepted.named post.form finding (checks.Fits accepted.user accepted.credential) accepted.fits in
+    let fitting = is_fitting setting known (asked_in (progress_of facts setting.moment known)) accepted.named post.form finding (checks.Fits accepted.user accepted.credential) accepted.fits in
     let who = who_of setting.moment known.state in
-    let check = subst (λ (n : Option UserId). check_of n (target_of n who post.form) (password_for facts (target_of n who post.form)) post.form finding ≡ checks.Fits accepted.user accepted.credential)
+    let check = subst (λ (n : Option UserId). check_of setting (asked_in (progress_of facts setting.moment known)) n who (password_for facts (target_of n who post.form)) post.form finding ≡ checks.Fits accepted.user accepted.credential)
     (sym current.is_named) fitting.is_check in
-    let named = fits_named facts who (password_for facts (target_of (named_by facts post.form) who post.form)) post.form finding accepted.user accepted.credential check in
+    let named = fits_named setting (asked_in (progress_of facts setting.moment known)) who (password_for facts (target_of (named_by facts post.form) who post.form)) post.form finding accepted.user accepted.credential check in
     let passing : Passing = record { tab = known.tab; user = accepted.user; credential = accepted.credential; moment = setting.moment } in
     record {
       known = is_known;
@@ -220,10 +222,10 @@ pub record Answered (setting : Setting) (post : Post) (finding : Finding) (user 
 check_answered : (setting : Setting) (post : Post) (finding : Finding) (user : UserId) (known : KnownTab) (named : Option UserId) (check : Check)
     → check_tab setting.facts post.root post.tab ≡ Ok known
     → check_post setting.facts setting.moment known post ≡ Ok named
-    → check_form setting.facts setting.moment known (asked_in (progress_of setting.facts setting.moment known)) named post.form finding ≡ Ok check
+    → check_form setting known (asked_in (progress_of setting.facts setting.moment known)) named post.form finding ≡ Ok check
     → done_for (answer_to_check setting known (asked_in (progress_of setting.facts setting.moment known)) post.form check).reply.what ≡ Some user
     → Answered setting post finding user
-unfolding answer_to_check answer_to_accepted answer_to_wrong
+unfolding answer_to_check answer_to_accepted
 check_answered setting post finding user known named (checks.Fits fit credential) is_known is_named fits h =
     let accepted : IsAccepted setting post finding = record {
       known = known;
@@ -237,6 +239,8 @@ check_answered setting post finding user known named (checks.Fits fit credential
     let more = facts_accepted setting post finding accepted in
     record { accepted = accepted; done = sym (tab_done more setting (known_over known more)) ∙ h }
 check_answered setting post finding user known named (checks.Wrong wrong) is_known is_named fits h = absurd cc
+check_answered setting post finding user known named (checks.WrongCode wrong) is_known is_named fits h = absurd cc
+check_answered setting post finding user known named (checks.SpentCode step) is_known is_named fits h = absurd cc
 
 pub answered : (setting : Setting) (post : Post) (finding : Finding) (user : UserId) → done_for (due_post setting post finding).reply.what ≡ Some user
     → Answered setting post finding user
@@ -247,7 +251,7 @@ answered setting post finding user h =
     let known = first.got in
     let second = settled_done facts (Some known.tab) (post_by setting post.form finding known) (check_post facts setting.moment known post) user first.done in
     let asked = asked_in (progress_of facts setting.moment known) in
-    let third = settled_done facts (Some known.tab) (answer_to_check setting known asked post.form) (check_form facts setting.moment known asked second.got post.form finding) user second.done in
+    let third = settled_done facts (Some known.tab) (answer_to_check setting known asked post.form) (check_form setting known asked second.got post.form finding) user second.done in
     check_answered setting post finding user known second.got third.got first.is_got second.is_got third.is_got third.done
 
 -- what an accepted post is due

@@ -37,8 +37,10 @@ use Rattle.login_progress.specs.declared.progress.Progress.TheVariants as progre
 use Rattle.login_progress.specs.PasswordFor.{password_for}
 use Rattle.login_progress.specs.Progress.{progress_of, asked_in}
 use Rattle.tab_asks.specs.declared.check.Check.TheVariants as checks
+use Rattle.tab_asks.specs.declared.check.Spent.{Spent}
+use Rattle.tab_asks.specs.declared.check.Spent.TheVariants as spends
 use Rattle.tab_asks.specs.declared.passing.Passing.{Passing}
-use Rattle.tab_asks.specs.Forms.{named_by, target_of, evidence_of}
+use Rattle.tab_asks.specs.Forms.{named_by, target_of, code_evidence, evidence_of}
 use Rattle.tab_asks.specs.Pages.{page_fact, session_for, session_fact, completion, progress_answer, tab_answer}
 use Rattle.tab_asks.specs.Post.{is_code, check_code, check_user, check_post, has_need, check_form, check_of, known_over, evidence_by, answer_to_accepted, post_where, post_by, post_in, due_post}
 use Rattle.tab_asks.specs.Visit.{tab_in, tab_with, check_tab, check_whole, check_unfinished, user_of, same_user}
@@ -215,11 +217,16 @@ named_kept (forms.ConfigureOtp value) old more h = refl
 named_kept forms.RecoveryCodes old more h = refl
 named_kept forms.VerifyEmail old more h = refl
 
+code_puts : (passing : Passing) (execution : List ℕ) (spent : Spent) (name : List ℕ) → last_of (put_as name) (code_evidence passing execution spent) ≡ None
+code_puts passing execution spends.Nothing name = refl
+code_puts passing execution (spends.Step step) name = refl
+code_puts passing execution (spends.Number number) name = refl
+
 evidence_puts : (passing : Passing) (form : Form) (name : List ℕ) → last_of (put_as name) (evidence_of passing form) ≡ None
 evidence_puts passing (forms.Username execution other) name = refl
 evidence_puts passing (forms.NamePassword execution other password) name = refl
 evidence_puts passing (forms.Password execution password) name = refl
-evidence_puts passing (forms.Value execution value) name = refl
+evidence_puts passing (forms.Value execution value) name = code_puts passing execution passing.credential.spent name
 evidence_puts passing forms.Terms name = refl
 evidence_puts passing (forms.UpdatePassword password) name = refl
 evidence_puts passing (forms.ConfigureOtp value) name = refl
@@ -252,11 +259,16 @@ finished_answer tab answer h = subst (IsRefused tab) (sym h) (record { reply = r
 abbrev with_code : TabState → Code → TabState
 with_code state code = record state { code = Some code }
 
+code_serial : (old : List Fact) (passing : Passing) (execution : List ℕ) (spent : Spent) → last_tab_serial (old ++ code_evidence passing execution spent) ≡ last_tab_serial old
+code_serial old passing execution spends.Nothing = last_tab_serial_more old []
+code_serial old passing execution (spends.Step step) = last_tab_serial_more old (code_evidence passing execution (spends.Step step))
+code_serial old passing execution (spends.Number number) = last_tab_serial_more old (code_evidence passing execution (spends.Number number))
+
 evidence_serial : (old : List Fact) (passing : Passing) (form : Form) → last_tab_serial (old ++ evidence_of passing form) ≡ last_tab_serial old
 evidence_serial old passing (forms.Username execution name) = last_tab_serial_more old (evidence_of passing (forms.Username execution name))
 evidence_serial old passing (forms.NamePassword execution name password) = last_tab_serial_more old (evidence_of passing (forms.NamePassword execution name password))
 evidence_serial old passing (forms.Password execution password) = last_tab_serial_more old (evidence_of passing (forms.Password execution password))
-evidence_serial old passing (forms.Value execution value) = last_tab_serial_more old []
+evidence_serial old passing (forms.Value execution value) = code_serial old passing execution passing.credential.spent
 evidence_serial old passing forms.Terms = last_tab_serial_more old []
 evidence_serial old passing (forms.UpdatePassword password) = last_tab_serial_more old []
 evidence_serial old passing (forms.ConfigureOtp value) = last_tab_serial_more old []
@@ -313,10 +325,11 @@ module _ (setting : Setting) (post : Post) (finding : Finding) (accepted : IsAcc
       let b = behind setting post finding accepted in
       let who = who_of setting.moment known.state in
       let form = post.form in
-      let check = subst (λ (n : Option UserId). check_of n (target_of n who form) (password_for setting.facts (target_of n who form)) form finding ≡ checks.Fits accepted.user accepted.credential)
+      let asked = asked_in (progress_of setting.facts setting.moment known) in
+      let check = subst (λ (n : Option UserId). check_of setting asked n who (password_for setting.facts (target_of n who form)) form finding ≡ checks.Fits accepted.user accepted.credential)
       (sym b.current.is_named) b.fitting.is_check in
       let target = target_of (named_by setting.facts form) who form in
-      let of = fits_post_of setting.facts setting.moment known.state (password_for setting.facts target) form finding accepted.user accepted.credential check in
+      let of = fits_post_of setting asked known.state (password_for setting.facts target) form finding accepted.user accepted.credential check in
       let named = subst (λ (n : Option UserId). IsPostOf accepted.user setting.moment (with_name known.state n) form) b.current.is_named of in
       subst (λ (s : TabState). IsPostOf accepted.user setting.moment s form) (sym b.is_state) named
 

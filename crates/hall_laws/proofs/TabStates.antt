@@ -18,8 +18,10 @@ use Rattle.account_states.proofs.StateLemmas.{state_kept}
 use Rattle.facts.specs.Tabs.{tab_state, tab_after}
 use Rattle.facts.proofs.TabLemmas.{tab_state_more}
 use Rattle.hall_answers.specs.Setting.{Setting}
+use Rattle.tab_asks.specs.declared.check.Spent.{Spent}
+use Rattle.tab_asks.specs.declared.check.Spent.TheVariants as spends
 use Rattle.tab_asks.specs.declared.passing.Passing.{Passing}
-use Rattle.tab_asks.specs.Forms.{evidence_of}
+use Rattle.tab_asks.specs.Forms.{code_evidence, evidence_of}
 use Rattle.tab_asks.specs.NewTab.{facts_opened, opening_at, opening_fact, new_root_key, new_tab_key}
 
 pub same_id-same : (a : Id) → same_id a a ≡ true
@@ -53,6 +55,12 @@ named_as user forms.VerifyEmail = None
 abbrev pub with_name : TabState → Option UserId → TabState
 with_name state user = record state { named = option_or user state.named }
 
+code_state : (root : RootKey) (old : List Fact) (passing : Passing) (execution : List ℕ) (spent : Spent)
+    → tab_state root passing.tab (old ++ code_evidence passing execution spent) ≡ tab_state root passing.tab old
+code_state root old passing execution spends.Nothing = more_state root passing.tab old []
+code_state root old passing execution (spends.Step step) = more_state root passing.tab old (code_evidence passing execution (spends.Step step))
+code_state root old passing execution (spends.Number number) = more_state root passing.tab old (code_evidence passing execution (spends.Number number))
+
 pub evidence_state : (root : RootKey) (old : List Fact) (passing : Passing) (form : Form)
     → tab_state root passing.tab (old ++ evidence_of passing form) ≡ with_name (tab_state root passing.tab old) (named_as passing.user form)
 evidence_state root old passing (forms.Username execution name) =
@@ -60,7 +68,7 @@ evidence_state root old passing (forms.Username execution name) =
 evidence_state root old passing (forms.NamePassword execution name password) =
     more_state root passing.tab old (evidence_of passing (forms.NamePassword execution name password)) ∙ rw (same_id-same passing.tab.0) refl
 evidence_state root old passing (forms.Password execution password) = more_state root passing.tab old (evidence_of passing (forms.Password execution password))
-evidence_state root old passing (forms.Value execution value) = more_state root passing.tab old []
+evidence_state root old passing (forms.Value execution value) = code_state root old passing execution passing.credential.spent
 evidence_state root old passing forms.Terms = more_state root passing.tab old []
 evidence_state root old passing (forms.UpdatePassword password) = more_state root passing.tab old []
 evidence_state root old passing (forms.ConfigureOtp value) = more_state root passing.tab old []
@@ -68,11 +76,16 @@ evidence_state root old passing forms.RecoveryCodes = more_state root passing.ta
 evidence_state root old passing forms.VerifyEmail = more_state root passing.tab old []
 
 -- evidence changes nothing of how an account stands
+code_unmoved : (passing : Passing) (execution : List ℕ) (spent : Spent) (user : UserId) → list_any (moves_state user) (code_evidence passing execution spent) ≡ false
+code_unmoved passing execution spends.Nothing user = refl
+code_unmoved passing execution (spends.Step step) user = refl
+code_unmoved passing execution (spends.Number number) user = refl
+
 unmoved : (passing : Passing) (form : Form) (user : UserId) → list_any (moves_state user) (evidence_of passing form) ≡ false
 unmoved passing (forms.Username execution name) user = refl
 unmoved passing (forms.NamePassword execution name password) user = refl
 unmoved passing (forms.Password execution password) user = refl
-unmoved passing (forms.Value execution value) user = refl
+unmoved passing (forms.Value execution value) user = code_unmoved passing execution passing.credential.spent user
 unmoved passing forms.Terms user = refl
 unmoved passing (forms.UpdatePassword password) user = refl
 unmoved passing (forms.ConfigureOtp value) user = refl

@@ -31,9 +31,12 @@ use Rattle.login_progress.specs.Account.{account_of}
 use Rattle.login_progress.specs.Asked.{asked_as, asked_of, blocked, first_denied, denied_or}
 use Rattle.login_progress.specs.Progress.{asked_or, ready_for, lacking, truths_in, progress_in, progress_under, progress_of, asked_in}
 use Rattle.tab_asks.specs.declared.check.Check.TheVariants as checks
-use Rattle.tab_asks.specs.Forms.{named_by, target_of, is_of}
+use Rattle.hall_answers.specs.Setting.{Setting}
+use Rattle.tab_asks.specs.declared.check.Credential.{Credential}
+use Rattle.tab_asks.specs.Forms.{named_by, is_of}
 use Rattle.tab_asks.specs.Post.{has_need, check_of}
 use Rattle.tab_asks.specs.Visit.{same_user, user_of}
+use Rattle.hall_laws.proofs.CodeChecks.{code_fits}
 use Rattle.hall_laws.proofs.Gates.{same_is}
 use Rattle.hall_laws.proofs.PostReadiness.{name_fits, password_fits}
 use Rattle.hall_laws.proofs.TabStates.{with_name}
@@ -68,26 +71,37 @@ named_known : (live : Option RootSession) (named : Option UserId) (user : UserId
 named_known None named user is none = cc
 named_known (Some own) named user is none = cc
 
--- ---- a password isn't asked of nobody
+-- ---- neither a password nor a code is asked of nobody
 
-unasked_kind : (id : List ℕ) (kind : Option Kind) (execution password : List ℕ) → has_need (asked_as None id kind) (forms.Password execution password) ≡ false
-unasked_kind id None execution password = refl
-unasked_kind id (Some kinds.Allow) execution password = refl
-unasked_kind id (Some kinds.Deny) execution password = refl
-unasked_kind id (Some kinds.Cookie) execution password = refl
-unasked_kind id (Some kinds.Username) execution password = ap (λ b. b || false) (and_right (bytes_eq id execution) false refl)
-unasked_kind id (Some kinds.Form) execution password = ap (λ b. b || false) (and_right (bytes_eq id execution) false refl)
-unasked_kind id (Some kinds.Password) execution password = refl
-unasked_kind id (Some kinds.Otp) execution password = refl
-unasked_kind id (Some kinds.Recovery) execution password = refl
+unasked_password : (execution password : List ℕ) (id : List ℕ) (kind : Option Kind) → has_need (asked_as None id kind) (forms.Password execution password) ≡ false
+unasked_password execution password id None = refl
+unasked_password execution password id (Some kinds.Allow) = refl
+unasked_password execution password id (Some kinds.Deny) = refl
+unasked_password execution password id (Some kinds.Cookie) = refl
+unasked_password execution password id (Some kinds.Username) = ap (λ b. b || false) (and_right (bytes_eq id execution) false refl)
+unasked_password execution password id (Some kinds.Form) = ap (λ b. b || false) (and_right (bytes_eq id execution) false refl)
+unasked_password execution password id (Some kinds.Password) = refl
+unasked_password execution password id (Some kinds.Otp) = refl
+unasked_password execution password id (Some kinds.Recovery) = refl
 
-unasked : (tree : List Exec) (needs : List (List ℕ)) (execution password : List ℕ) → has_need (asked_of tree None needs) (forms.Password execution password) ≡ false
+unasked_value : (execution value : List ℕ) (id : List ℕ) (kind : Option Kind) → has_need (asked_as None id kind) (forms.Value execution value) ≡ false
+unasked_value execution value id None = refl
+unasked_value execution value id (Some kinds.Allow) = refl
+unasked_value execution value id (Some kinds.Deny) = refl
+unasked_value execution value id (Some kinds.Cookie) = refl
+unasked_value execution value id (Some kinds.Username) = ap (λ b. (b || b) || false) (and_right (bytes_eq id execution) false refl)
+unasked_value execution value id (Some kinds.Form) = ap (λ b. (b || b) || false) (and_right (bytes_eq id execution) false refl)
+unasked_value execution value id (Some kinds.Password) = refl
+unasked_value execution value id (Some kinds.Otp) = refl
+unasked_value execution value id (Some kinds.Recovery) = refl
+
+unasked : (form : Form) → ((id : List ℕ) (kind : Option Kind) → has_need (asked_as None id kind) form ≡ false)
+    → (tree : List Exec) (needs : List (List ℕ)) → has_need (asked_of tree None needs) form ≡ false
 unfolding asked_of
-unasked tree [] execution password = refl
-unasked tree (id ∷ needs) execution password =
-    let form = forms.Password execution password in
+unasked form never tree [] = refl
+unasked form never tree (id ∷ needs) =
     list_any-append (λ (need : Need). is_of need form) (asked_as None id (kind_among id (places tree))) (asked_of tree None needs)
-    ∙ ap (λ b. b || has_need (asked_of tree None needs) form) (unasked_kind id (kind_among id (places tree)) execution password) ∙ unasked tree needs execution password
+    ∙ ap (λ b. b || has_need (asked_of tree None needs) form) (never id (kind_among id (places tree))) ∙ unasked form never tree needs
 
 asked_in_or : (asked : List Need) (other : Progress) → asked_in other ≡ [] → asked_in (asked_or asked other) ≡ asked
 asked_in_or [] other h = h
@@ -97,23 +111,24 @@ dead_asks : (denied : Option (List ℕ)) → asked_in (denied_or denied progress
 dead_asks None = refl
 dead_asks (Some id) = refl
 
-lacking_unasked : (facts : List Fact) (tree : List Exec) (needs : List (List ℕ)) (execution password : List ℕ) → has_need (asked_in (lacking facts None tree needs)) (forms.Password execution password) ≡ false
+lacking_unasked : (facts : List Fact) (tree : List Exec) (needs : List (List ℕ)) (form : Form) → has_need (asked_of tree None needs) form ≡ false
+    → has_need (asked_in (lacking facts None tree needs)) form ≡ false
 unfolding blocked account_of
-lacking_unasked facts tree needs execution password =
-    ap (λ asked. has_need asked (forms.Password execution password)) (asked_in_or (asked_of tree None needs) (blocked tree None needs) (dead_asks (first_denied tree needs)))
-    ∙ unasked tree needs execution password
+lacking_unasked facts tree needs form never =
+    ap (λ asked. has_need asked form) (asked_in_or (asked_of tree None needs) (blocked tree None needs) (dead_asks (first_denied tree needs))) ∙ never
 
 holds_unasked : (holds : Bool) (other : Progress) (form : Form) → has_need (asked_in other) form ≡ false → has_need (asked_in (if holds then ready_for None else other)) form ≡ false
 holds_unasked true other form h = refl
 holds_unasked false other form h = h
 
-nobody_unasked : (facts : List Fact) (tab : TabKey) (realm : Option RealmParts) (execution password : List ℕ) → has_need (asked_in (progress_under facts tab None realm)) (forms.Password execution password) ≡ false
+nobody_unasked : (facts : List Fact) (tab : TabKey) (realm : Option RealmParts) (form : Form) → ((id : List ℕ) (kind : Option Kind) → has_need (asked_as None id kind) form ≡ false)
+    → has_need (asked_in (progress_under facts tab None realm)) form ≡ false
 unfolding progress_in
-nobody_unasked facts tab None execution password = refl
-nobody_unasked facts tab (Some realm) execution password =
+nobody_unasked facts tab None form never = refl
+nobody_unasked facts tab (Some realm) form never =
     let truths = truths_in facts tab None realm.flow in
     let needs = flow_needs truths realm.flow in
-    holds_unasked (flow_holds truths realm.flow) (lacking facts None realm.flow needs) (forms.Password execution password) (lacking_unasked facts realm.flow needs execution password)
+    holds_unasked (flow_holds truths realm.flow) (lacking facts None realm.flow needs) form (lacking_unasked facts realm.flow needs form (unasked form never realm.flow needs))
 
 -- ---- what isn't asked behind the evidence isn't asked later
 
@@ -121,30 +136,30 @@ never_asked : (asked : List Need) (form : Form) → ((need : Need) → is_of nee
 never_asked [] form h = refl
 never_asked (need ∷ asked) form h = rw (h need) (never_asked asked form h)
 
--- whose a post is: it names the user, or gives the password of the one whose login it is
+-- whose a post is: it names the user, or gives a password or a code of the one whose login it is
 abbrev pub IsPostOf : UserId → ℕ → TabState → Form → Type 0
 IsPostOf user moment state (forms.Username execution name) = state.named ≡ Some user
 IsPostOf user moment state (forms.NamePassword execution name password) = state.named ≡ Some user
 IsPostOf user moment state (forms.Password execution password) = who_of moment state ≡ Some user
-IsPostOf user moment state (forms.Value execution value) = Unit {0}
+IsPostOf user moment state (forms.Value execution value) = who_of moment state ≡ Some user
 IsPostOf user moment state forms.Terms = Unit {0}
 IsPostOf user moment state (forms.UpdatePassword password) = Unit {0}
 IsPostOf user moment state (forms.ConfigureOtp value) = Unit {0}
 IsPostOf user moment state forms.RecoveryCodes = Unit {0}
 IsPostOf user moment state forms.VerifyEmail = Unit {0}
 
-pub fits_post_of : (facts : List Fact) (moment : ℕ) (state : TabState) (password : Option UserPassword) (form : Form) (finding : Finding) (user : UserId) (credential : ℕ)
-    → check_of (named_by facts form) (target_of (named_by facts form) (who_of moment state) form) password form finding ≡ checks.Fits user credential
-    → IsPostOf user moment (with_name state (named_by facts form)) form
-fits_post_of facts moment state password (forms.Username execution name) finding user credential h = ap (λ (n : Option UserId). option_or n state.named) (name_fits (account_named name facts) user credential h)
-fits_post_of facts moment state password (forms.NamePassword execution name given) finding user credential h = ap (λ (n : Option UserId). option_or n state.named) (password_fits (account_named name facts) password finding user credential h)
-fits_post_of facts moment state password (forms.Password execution given) finding user credential h = password_fits (who_of moment state) password finding user credential h
-fits_post_of facts moment state password (forms.Value execution value) finding user credential h = tt
-fits_post_of facts moment state password forms.Terms finding user credential h = tt
-fits_post_of facts moment state password (forms.UpdatePassword given) finding user credential h = tt
-fits_post_of facts moment state password (forms.ConfigureOtp value) finding user credential h = tt
-fits_post_of facts moment state password forms.RecoveryCodes finding user credential h = tt
-fits_post_of facts moment state password forms.VerifyEmail finding user credential h = tt
+pub fits_post_of : (setting : Setting) (asked : List Need) (state : TabState) (password : Option UserPassword) (form : Form) (finding : Finding) (user : UserId) (credential : Credential)
+    → check_of setting asked (named_by setting.facts form) (who_of setting.moment state) password form finding ≡ checks.Fits user credential
+    → IsPostOf user setting.moment (with_name state (named_by setting.facts form)) form
+fits_post_of setting asked state password (forms.Username execution name) finding user credential h = ap (λ (n : Option UserId). option_or n state.named) (name_fits (account_named name setting.facts) user credential h)
+fits_post_of setting asked state password (forms.NamePassword execution name given) finding user credential h = ap (λ (n : Option UserId). option_or n state.named) (password_fits (account_named name setting.facts) password finding user credential h)
+fits_post_of setting asked state password (forms.Password execution given) finding user credential h = password_fits (who_of setting.moment state) password finding user credential h
+fits_post_of setting asked state password (forms.Value execution value) finding user credential h = code_fits setting asked (who_of setting.moment state) execution value user credential h
+fits_post_of setting asked state password forms.Terms finding user credential h = tt
+fits_post_of setting asked state password (forms.UpdatePassword given) finding user credential h = tt
+fits_post_of setting asked state password (forms.ConfigureOtp value) finding user credential h = tt
+fits_post_of setting asked state password forms.RecoveryCodes finding user credential h = tt
+fits_post_of setting asked state password forms.VerifyEmail finding user credential h = tt
 
 module _ (facts : List Fact) (moment later : ℕ) (known : KnownTab) (user : UserId) where
   -- the executions that are asked of this one at some moment
@@ -162,6 +177,12 @@ module _ (facts : List Fact) (moment later : ℕ) (known : KnownTab) (user : Use
       let e = same_later known.state.session moment later known.state.named user found before after whose is in
       ap (λ who. has_need (asked_of_whom who) form) (is ∙ ap Some e ∙ sym whose) ∙ ap (λ asked. has_need asked form) nothing
 
+  nobody_later : (form : Form) → ((id : List ℕ) (kind : Option Kind) → has_need (asked_as None id kind) form ≡ false)
+      → who_of later known.state ≡ None → has_need (asked_in (progress_of facts later known)) form ≡ false
+  unfolding progress_of
+  nobody_later form never none =
+      ap (λ who. has_need (asked_of_whom who) form) none ∙ nobody_unasked facts known.tab (realm_of known.opening.version facts) form never
+
   named_lacks : (form : Form) → known.state.named ≡ Some user
       → same_user known.state.named (user_of (live_session moment known.state)) ≡ Ok tt → same_user known.state.named (user_of (live_session later known.state)) ≡ Ok tt
       → asked_in (progress_of facts moment known) ≡ [] → has_need (asked_in (progress_of facts later known)) form ≡ false
@@ -177,8 +198,10 @@ module _ (facts : List Fact) (moment later : ℕ) (known : KnownTab) (user : Use
   form_lacks (forms.NamePassword execution name password) of before nothing after = named_lacks (forms.NamePassword execution name password) of before after nothing
   form_lacks (forms.Password execution password) of before nothing after =
       lacks_later (forms.Password execution password) (who_of later known.state) refl before after of nothing
-      (λ none. ap (λ who. has_need (asked_of_whom who) (forms.Password execution password)) none ∙ nobody_unasked facts known.tab (realm_of known.opening.version facts) execution password)
-  form_lacks (forms.Value execution value) of before nothing after = never_asked (asked_in (progress_of facts later known)) (forms.Value execution value) (λ need. refl)
+      (nobody_later (forms.Password execution password) (unasked_password execution password))
+  form_lacks (forms.Value execution value) of before nothing after =
+      lacks_later (forms.Value execution value) (who_of later known.state) refl before after of nothing
+      (nobody_later (forms.Value execution value) (unasked_value execution value))
   form_lacks forms.Terms of before nothing after = never_asked (asked_in (progress_of facts later known)) forms.Terms (λ need. refl)
   form_lacks (forms.UpdatePassword password) of before nothing after = never_asked (asked_in (progress_of facts later known)) (forms.UpdatePassword password) (λ need. refl)
   form_lacks (forms.ConfigureOtp value) of before nothing after = never_asked (asked_in (progress_of facts later known)) (forms.ConfigureOtp value) (λ need. refl)

@@ -3,21 +3,18 @@ use Rattle.std.proofs.Common.{List, [], ◌∷◌, ◌++◌, refl}
 use Rattle.std.specs.List.{All}
 use Rattle.std.proofs.lemmas.List.Elements.{All-nil, All-cons}
 use Rattle.realm_data.specs.declared.realm_parts.RealmParts.{RealmParts}
-use Rattle.flow_tree.specs.declared.exec.Kind.TheVariants as kinds
 use Rattle.asks.specs.declared.ask.Ask.{Ask}
-use Rattle.asks.specs.declared.ask.Form.{Form}
-use Rattle.asks.specs.declared.ask.Form.TheVariants as forms
 use Rattle.facts.specs.declared.fact.Fact.{Fact}
 use Rattle.asks.specs.declared.finding.Finding.{Finding}
 use Rattle.std.specs.Prelude.{Option}
 use Rattle.hall_answers.specs.Setting.{Setting}
 use Rattle.tab_asks.specs.declared.passing.Passing.{Passing}
-use Rattle.tab_asks.specs.Forms.{evidence_of, name_fact, evidence_fact}
 use Rattle.login_hall.specs.Due.{due_ask}
 use Rattle.login_hall.specs.Start.{IsStart}
 use Rattle.login_hall.proofs.StartLemmas.{no_mark}
 use Rattle.hall_laws.specs.Repeats.{HasCodesCounted}
 use Rattle.hall_laws.proofs.Added.{Allows, ask_all}
+use Rattle.hall_laws.proofs.EvidenceFacts.{evidence_all}
 use Rattle.hall_laws.proofs.CodeSerials.{IsUnmarked, codes_kept, all_unmarked}
 
 unmarked_allows : Allows IsUnmarked
@@ -34,25 +31,12 @@ unmarked_allows = record {
   secret_set = λ user kind serial secret by. refl;
 }
 
-evidence_unmarked : (passing : Passing) (form : Form) → All IsUnmarked (evidence_of passing form)
-evidence_unmarked passing (forms.Username execution name) =
-    All-cons IsUnmarked (name_fact passing) (evidence_fact passing execution kinds.Username ∷ []) refl (All-cons IsUnmarked (evidence_fact passing execution kinds.Username) [] refl (All-nil IsUnmarked))
-evidence_unmarked passing (forms.NamePassword execution name password) =
-    All-cons IsUnmarked (name_fact passing) (evidence_fact passing execution kinds.Form ∷ []) refl (All-cons IsUnmarked (evidence_fact passing execution kinds.Form) [] refl (All-nil IsUnmarked))
-evidence_unmarked passing (forms.Password execution password) = All-cons IsUnmarked (evidence_fact passing execution kinds.Password) [] refl (All-nil IsUnmarked)
-evidence_unmarked passing (forms.Value execution value) = All-nil IsUnmarked
-evidence_unmarked passing forms.Terms = All-nil IsUnmarked
-evidence_unmarked passing (forms.UpdatePassword password) = All-nil IsUnmarked
-evidence_unmarked passing (forms.ConfigureOtp value) = All-nil IsUnmarked
-evidence_unmarked passing forms.RecoveryCodes = All-nil IsUnmarked
-evidence_unmarked passing forms.VerifyEmail = All-nil IsUnmarked
-
 pub ask_counts : (setting : Setting) (ask : Ask) (finding : Finding) → HasCodesCounted setting.facts → HasCodesCounted (setting.facts ++ (due_ask setting ask finding).added)
 ask_counts setting ask finding counted =
     codes_kept setting.facts (due_ask setting ask finding).added
     (ask_all IsUnmarked unmarked_allows setting ask finding (λ user opened. refl) (λ post accepted.
     let passing : Passing = record { tab = accepted.known.tab; user = accepted.user; credential = accepted.credential; moment = setting.moment } in
-    evidence_unmarked passing post.form)) counted
+    evidence_all IsUnmarked (λ p. refl) (λ p execution kind. refl) (λ credential step. refl) (λ credential number. refl) passing post.form)) counted
 
 pub start_counts : (base : List Fact) (realm : Option RealmParts) (added : List Fact) → IsStart base realm added → HasCodesCounted base → HasCodesCounted (base ++ added)
 start_counts base realm added start counted = codes_kept base added (all_unmarked added (no_mark base realm added start)) counted

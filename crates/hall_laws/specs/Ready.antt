@@ -23,6 +23,7 @@ use Rattle.lockout.specs.Standing.{is_locked}
 use Rattle.login_progress.specs.declared.known_tab.KnownTab.{KnownTab}
 use Rattle.login_progress.specs.Progress.{progress_of, asked_in, truths_in}
 use Rattle.tab_asks.specs.declared.check.Check.TheVariants.{Fits}
+use Rattle.tab_asks.specs.declared.check.Credential.{Credential}
 use Rattle.tab_asks.specs.NewTab.{check_new_tab, facts_opened, new_root_key, new_tab_key}
 use Rattle.tab_asks.specs.Post.{check_post, check_form, evidence_by}
 use Rattle.tab_asks.specs.Visit.{check_tab}
@@ -74,11 +75,11 @@ pub record IsAccepted (setting : Setting) (post : Post) (finding : Finding) : Ty
   -- the user whom its form names, if any
   pub named : Option UserId
   pub is_named : check_post setting.facts setting.moment known post ≡ Ok named
-  -- the user whom its check fits, and the serial of the secret on which it rests
+  -- the user whom its check fits, and the secret on which it rests
   pub user : UserId
-  pub credential : ℕ
+  pub credential : Credential
   pub fits :
-      check_form setting.facts setting.moment known (asked_at setting known) named post.form finding
+      check_form setting known (asked_at setting known) named post.form finding
       ≡ Ok (Fits user credential)
 
 -- the facts with the evidence of an accepted post behind them

@@ -7,6 +7,7 @@ pub mod codes;
 pub mod evidence;
 pub mod ready;
 pub mod repeats;
+pub mod spent;
 pub mod starts;
 pub mod tab_history;
 
@@ -16,5 +17,6 @@ pub use codes::{ask_counts_codes, mark_counts_codes, start_counts_codes};
 pub use evidence::{only_posts_add_evidence, post_adds_asked_evidence};
 pub use ready::{open_completes, page_completes, post_completes};
 pub use repeats::{accepted_post_again, completed_post_again};
+pub use spent::{codes_are_spent_once, codes_are_spent_once_in_a_history};
 pub use starts::start_adds_the_same;
 pub use tab_history::tab_state_tells;

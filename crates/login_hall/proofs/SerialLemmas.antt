@@ -28,7 +28,7 @@ raises setting (asks.Post post) finding = raised 1 setting.facts _ (omega arith)
 raises setting (asks.Verify key) finding = raised 0 setting.facts _ (omega arith) (nothing 0 setting.facts)
 raises setting (asks.Reset key password) finding = raised 0 setting.facts _ (omega arith) (nothing 0 setting.facts)
 raises setting (asks.Logout root) finding = raised 0 setting.facts _ (omega arith) (nothing 0 setting.facts)
-raises setting (asks.Admin access verb) finding = raised_with_version 2 setting.facts _ (omega arith) (admin_raises setting access verb finding)
+raises setting (asks.Admin access verb) finding = raised_with_version 3 setting.facts _ (omega arith) (admin_raises setting access verb finding)
 
 pub raises_at : (facts : List Fact) (solved : SolvedAsk) (moment : ℕ) (draws : Draws) → Raises facts (facts ++ (due facts solved moment draws).added)
 raises_at facts solved moment draws = raises (setting_at facts moment draws) solved.ask solved.finding

@@ -1,6 +1,6 @@
 -- The facts of a start.
 use Rattle.std.proofs.Common.{◌≡◌, ℕ, ◌+◌, ◌*◌, ◌≤◌, Bool, true, false, ◌||◌, List, [], ◌∷◌, ◌++◌, Option, Some, None, refl, ap, sym, subst, ◌∙◌, ◌<◌, suc, length, drop, get_or, append_assoc, arith}
-use Rattle.std.specs.Prelude.{is_some, if◌then◌else◌}
+use Rattle.std.specs.Prelude.{is_some, fold, if◌then◌else◌}
 use Rattle.std.specs.List.{list_any}
 use Rattle.std.specs.Option.{option_or}
 use Rattle.std.proofs.Math.Seq.{drop-cons}
@@ -15,28 +15,43 @@ use Rattle.realm_data.specs.PasswordHash.{HashedPassword}
 use Rattle.realm_data.specs.RealmBuiltin.{builtin_realm}
 use Rattle.facts.specs.declared.fact.Fact.TheVariants as events
 use Rattle.facts.specs.Places.{last_of}
-use Rattle.facts.specs.Realms.{current_realm, has_realm, realm_put, last_version}
-use Rattle.facts.specs.Serials.{last_tab_serial, last_stored_serial}
+use Rattle.facts.specs.Realms.{current_realm, has_realm, realm_put, last_version, version_after}
+use Rattle.facts.specs.Serials.{last_tab_serial, last_stored_serial, tab_serial_after, stored_serial_after}
 use Rattle.facts.proofs.InForce.{has_realm_more, last_version_more}
 use Rattle.facts.proofs.PlacesLemmas.{last_of_append}
 use Rattle.facts.proofs.SerialLemmas.{last_tab_serial_more, last_stored_serial_more}
-use Rattle.admin_asks.specs.Account.{account_facts, serials_of}
+use Rattle.admin_asks.specs.Account.{GivenSecrets, disabled_facts, password_facts, otp_facts, recovery_facts, count, secret_facts, account_facts, serials_of}
 use Rattle.login_hall.specs.Legal.{RaisesAtStart}
-use Rattle.login_hall.specs.Start.{IsStart, IsPut, is_mark, realm_facts, user_facts, new_user_facts, serial_after, users_facts, users_after, start_facts}
+use Rattle.login_hall.specs.Start.{IsStart, IsPut, is_mark, realm_facts, secrets_of, user_facts, new_user_facts, serial_after, users_facts, users_after, start_facts}
 
 -- ---- no mark is among them
 
 pub both_without : (front back : List Fact) → list_any is_mark front ≡ false → list_any is_mark back ≡ false → list_any is_mark (front ++ back) ≡ false
 both_without front back f b = list_any-append is_mark front back ∙ ap (λ x. x || list_any is_mark back) f ∙ b
 
-account_without : (user : UserId) (name : List ℕ) (roles : List (List ℕ)) (enabled : Bool) (password : Option HashedPassword) → list_any is_mark (account_facts user name roles enabled password) ≡ false
-account_without user name roles true None = refl
-account_without user name roles true (Some hash) = refl
-account_without user name roles false None = refl
-account_without user name roles false (Some hash) = refl
+disabled_without : (user : UserId) (enabled : Bool) → list_any is_mark (disabled_facts user enabled) ≡ false
+disabled_without user true = refl
+disabled_without user false = refl
+
+password_without : (user : UserId) (serial : ℕ) (password : Option HashedPassword) → list_any is_mark (password_facts user serial password) ≡ false
+password_without user serial None = refl
+password_without user serial (Some hash) = refl
+
+otp_without : (user : UserId) (serial : ℕ) (otp : Option (List ℕ)) → list_any is_mark (otp_facts user serial otp) ≡ false
+otp_without user serial None = refl
+otp_without user serial (Some key) = refl
+
+recovery_without : (user : UserId) (serial : ℕ) (recovery : Option (List (List ℕ))) → list_any is_mark (recovery_facts user serial recovery) ≡ false
+recovery_without user serial None = refl
+recovery_without user serial (Some digests) = refl
+
+secrets_without : (user : UserId) (last : ℕ) (given : GivenSecrets) → list_any is_mark (secret_facts user last given) ≡ false
+secrets_without user last given =
+    both_without _ _ (password_without user (last + 1) given.password)
+    (both_without _ _ (otp_without user (last + count given.password + 1) given.otp) (recovery_without user (last + count given.password + count given.otp + 1) given.recovery))
 
 user_without : (user : UserId) (given : RealmUser) → list_any is_mark (user_facts user given) ≡ false
-user_without user given = account_without user given.name given.roles given.enabled given.password
+user_without user given = both_without _ _ (disabled_without user given.enabled) (secrets_without user user.0 (secrets_of given))
 
 new_user_without : (serial : ℕ) (given : RealmUser) (known : Bool) → list_any is_mark (if known then [] else user_facts (record { 0 = serial + 1 }) given) ≡ false
 new_user_without serial given true = refl
@@ -115,29 +130,6 @@ pub record Adds (old more : List Fact) (top : ℕ) : Type 0 where
   pub stored : last_stored_serial (old ++ more) ≤ top
   pub version : last_version (old ++ more) ≡ last_version old
 
-account_adds : (old : List Fact) (serial : ℕ) (name : List ℕ) (roles : List (List ℕ)) (enabled : Bool) (password : Option HashedPassword) → last_stored_serial old ≤ serial
-    → Adds old (account_facts (record { 0 = serial + 1 }) name roles enabled password) (serial + serials_of password)
-account_adds old serial name roles true None h = record {
-  tabs = last_tab_serial_more old (account_facts (record { 0 = serial + 1 }) name roles true None);
-  stored = let e = last_stored_serial_more old (account_facts (record { 0 = serial + 1 }) name roles true None) in omega (arith, h);
-  version = last_version_more old (account_facts (record { 0 = serial + 1 }) name roles true None);
-}
-account_adds old serial name roles false None h = record {
-  tabs = last_tab_serial_more old (account_facts (record { 0 = serial + 1 }) name roles false None);
-  stored = let e = last_stored_serial_more old (account_facts (record { 0 = serial + 1 }) name roles false None) in omega (arith, h);
-  version = last_version_more old (account_facts (record { 0 = serial + 1 }) name roles false None);
-}
-account_adds old serial name roles true (Some hash) h = record {
-  tabs = last_tab_serial_more old (account_facts (record { 0 = serial + 1 }) name roles true (Some hash));
-  stored = let e = last_stored_serial_more old (account_facts (record { 0 = serial + 1 }) name roles true (Some hash)) in omega (arith, h);
-  version = last_version_more old (account_facts (record { 0 = serial + 1 }) name roles true (Some hash));
-}
-account_adds old serial name roles false (Some hash) h = record {
-  tabs = last_tab_serial_more old (account_facts (record { 0 = serial + 1 }) name roles false (Some hash));
-  stored = let e = last_stored_serial_more old (account_facts (record { 0 = serial + 1 }) name roles false (Some hash)) in omega (arith, h);
-  version = last_version_more old (account_facts (record { 0 = serial + 1 }) name roles false (Some hash));
-}
-
 nothing_adds : (old : List Fact) (top : ℕ) → last_stored_serial old ≤ top → Adds old [] top
 nothing_adds old top h = record {
   tabs = ap last_tab_serial (append-nil old);
@@ -145,27 +137,91 @@ nothing_adds old top h = record {
   version = ap last_version (append-nil old);
 }
 
+adds_more : (old more : List Fact) (top : ℕ) → fold tab_serial_after (last_tab_serial old) more ≡ last_tab_serial old → fold stored_serial_after (last_stored_serial old) more ≤ top
+    → fold version_after (last_version old) more ≡ last_version old → Adds old more top
+adds_more old more top tabs stored version = record {
+  tabs = last_tab_serial_more old more ∙ tabs;
+  stored = let e = last_stored_serial_more old more in omega (arith, stored);
+  version = last_version_more old more ∙ version;
+}
+
+-- first these, then those
+both_add : (old front back : List Fact) (middle top : ℕ) → Adds old front middle → Adds (old ++ front) back top → Adds old (front ++ back) top
+both_add old front back middle top f b =
+    let e = append_assoc old front back in
+    record {
+      tabs = sym (ap last_tab_serial e) ∙ b.tabs ∙ f.tabs;
+      stored = let t = ap last_stored_serial e in let s = b.stored in omega (arith, s, t);
+      version = sym (ap last_version e) ∙ b.version ∙ f.version;
+    }
+
+put_adds : (old : List Fact) (user : UserId) (name : List ℕ) (roles : List (List ℕ)) (enabled : Bool) → last_stored_serial old ≤ user.0
+    → Adds old (events.UserPut user name roles ∷ disabled_facts user enabled) user.0
+put_adds old user name roles true h = adds_more old _ user.0 refl (omega (arith, h)) refl
+put_adds old user name roles false h = adds_more old _ user.0 refl (omega (arith, h)) refl
+
+password_adds : (old : List Fact) (user : UserId) (last : ℕ) (password : Option HashedPassword) → last_stored_serial old ≤ last → Adds old (password_facts user (last + 1) password) (last + count password)
+password_adds old user last None h = nothing_adds old (last + 0) (omega (arith, h))
+password_adds old user last (Some hash) h = adds_more old _ (last + 1) refl (omega (arith, h)) refl
+
+otp_adds : (old : List Fact) (user : UserId) (last : ℕ) (otp : Option (List ℕ)) → last_stored_serial old ≤ last → Adds old (otp_facts user (last + 1) otp) (last + count otp)
+otp_adds old user last None h = nothing_adds old (last + 0) (omega (arith, h))
+otp_adds old user last (Some key) h = adds_more old _ (last + 1) refl (omega (arith, h)) refl
+
+recovery_adds : (old : List Fact) (user : UserId) (last : ℕ) (recovery : Option (List (List ℕ))) → last_stored_serial old ≤ last → Adds old (recovery_facts user (last + 1) recovery) (last + count recovery)
+recovery_adds old user last None h = nothing_adds old (last + 0) (omega (arith, h))
+recovery_adds old user last (Some digests) h = adds_more old _ (last + 1) refl (omega (arith, h)) refl
+
+secrets_add : (old : List Fact) (user : UserId) (last : ℕ) (given : GivenSecrets) → last_stored_serial old ≤ last
+    → Adds old (secret_facts user last given) (last + count given.password + count given.otp + count given.recovery)
+secrets_add old user last given h =
+    let first = password_facts user (last + 1) given.password in
+    let second = otp_facts user (last + count given.password + 1) given.otp in
+    let third = recovery_facts user (last + count given.password + count given.otp + 1) given.recovery in
+    let one = password_adds old user last given.password h in
+    let two = otp_adds (old ++ first) user (last + count given.password) given.otp one.stored in
+    let three = recovery_adds ((old ++ first) ++ second) user (last + count given.password + count given.otp) given.recovery two.stored in
+    let more = both_add (old ++ first) second third (last + count given.password + count given.otp) (last + count given.password + count given.otp + count given.recovery) two three in
+    both_add old first (second ++ third) (last + count given.password) (last + count given.password + count given.otp + count given.recovery) one more
+
+same_top : (old more : List Fact) (top other : ℕ) → top ≡ other → Adds old more top → Adds old more other
+same_top old more top other e adds = subst (λ (n : ℕ). Adds old more n) e adds
+
+account_adds : (old : List Fact) (serial : ℕ) (name : List ℕ) (roles : List (List ℕ)) (enabled : Bool) (given : GivenSecrets) → last_stored_serial old ≤ serial
+    → Adds old (account_facts (record { 0 = serial + 1 }) name roles enabled given) (serial + serials_of given)
+account_adds old serial name roles enabled given h =
+    let user : UserId = record { 0 = serial + 1 } in
+    let put = events.UserPut user name roles ∷ disabled_facts user enabled in
+    let top = serial + 1 + count given.password + count given.otp + count given.recovery in
+    let front : Adds old put (serial + 1) = put_adds old user name roles enabled (omega (arith, h)) in
+    let back : Adds (old ++ put) (secret_facts user (serial + 1) given) top = secrets_add (old ++ put) user (serial + 1) given front.stored in
+    same_top old (account_facts user name roles enabled given) top (serial + serials_of given) (omega arith) (both_add old put (secret_facts user (serial + 1) given) (serial + 1) top front back)
+
 user_adds : (base old : List Fact) (serial : ℕ) (given : RealmUser) (known : Bool) → last_stored_serial old ≤ serial
-    → Adds old (if known then [] else user_facts (record { 0 = serial + 1 }) given) (if known then serial else serial + serials_of given.password)
+    → Adds old (if known then [] else user_facts (record { 0 = serial + 1 }) given) (if known then serial else serial + serials_of (secrets_of given))
 user_adds base old serial given true h = nothing_adds old serial h
-user_adds base old serial given false h = account_adds old serial given.name given.roles given.enabled given.password h
+user_adds base old serial given false h = account_adds old serial given.name given.roles given.enabled (secrets_of given) h
 
-few_serials : (serial : ℕ) (password : Option HashedPassword) (known : Bool) → (if known then serial else serial + serials_of password) ≤ serial + 2
-few_serials serial password true = omega arith
-few_serials serial None false = omega arith
-few_serials serial (Some hash) false = omega arith
+one_at_most : {A : Type 0} (given : Option A) → count given ≤ 1
+one_at_most None = omega arith
+one_at_most (Some x) = omega arith
 
-users_add : (base old : List Fact) (serial : ℕ) (users : List RealmUser) → last_stored_serial old ≤ serial → Adds old (users_facts base serial users) (serial + 2 * length users)
+few_serials : (serial : ℕ) (given : GivenSecrets) (known : Bool) → (if known then serial else serial + serials_of given) ≤ serial + 4
+few_serials serial given true = omega arith
+few_serials serial given false =
+    let p = one_at_most given.password in let o = one_at_most given.otp in let r = one_at_most given.recovery in omega (arith, p, o, r)
+
+users_add : (base old : List Fact) (serial : ℕ) (users : List RealmUser) → last_stored_serial old ≤ serial → Adds old (users_facts base serial users) (serial + 4 * length users)
 unfolding users_facts
-users_add base old serial [] h = nothing_adds old (serial + 2 * 0) (omega (arith, h))
+users_add base old serial [] h = nothing_adds old (serial + 4 * 0) (omega (arith, h))
 users_add base old serial (given ∷ users) h =
     let known = is_some (account_named given.name base) in
     let front = new_user_facts base serial given in
     let next = serial_after base serial given in
     let back = users_facts base next users in
     let first : Adds old front next = user_adds base old serial given known h in
-    let rest : Adds (old ++ front) back (next + 2 * length users) = users_add base (old ++ front) next users first.stored in
-    let few : next ≤ serial + 2 = few_serials serial given.password known in
+    let rest : Adds (old ++ front) back (next + 4 * length users) = users_add base (old ++ front) next users first.stored in
+    let few : next ≤ serial + 4 = few_serials serial (secrets_of given) known in
     let e = append_assoc old front back in
     record {
       tabs = sym (ap last_tab_serial e) ∙ rest.tabs ∙ first.tabs;

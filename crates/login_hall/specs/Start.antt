@@ -10,7 +10,7 @@ use Rattle.facts.specs.declared.fact.Fact.TheVariants as events
 use Rattle.facts.specs.Accounts.{account_named}
 use Rattle.facts.specs.Realms.{current_realm, last_version}
 use Rattle.facts.specs.Serials.{last_stored_serial}
-use Rattle.admin_asks.specs.Account.{account_facts, serials_of}
+use Rattle.admin_asks.specs.Account.{GivenSecrets, account_facts, serials_of}
 
 -- ---- the realm
 
@@ -34,15 +34,18 @@ realm_facts last (Some realm) = events.RealmPut (last + 1) realm ∷ []
 
 -- ---- its users
 
--- a user of the realm is added; codes and actions aren't built yet
+abbrev pub secrets_of : RealmUser → GivenSecrets
+secrets_of given = record { password = given.password; otp = given.otp; recovery = given.recovery }
+
+-- a user of the realm is added; actions aren't built yet
 abbrev pub user_facts : UserId → RealmUser → List Fact
-user_facts user given = account_facts user given.name given.roles given.enabled given.password
+user_facts user given = account_facts user given.name given.roles given.enabled (secrets_of given)
 
 abbrev pub new_user_facts : List Fact → ℕ → RealmUser → List Fact
 new_user_facts base serial given = if is_some (account_named given.name base) then [] else user_facts (record { 0 = serial + 1 }) given
 
 abbrev pub serial_after : List Fact → ℕ → RealmUser → ℕ
-serial_after base serial given = if is_some (account_named given.name base) then serial else serial + serials_of given.password
+serial_after base serial given = if is_some (account_named given.name base) then serial else serial + serials_of (secrets_of given)
 
 -- each user whose name has no account is added, in order, with the serials that follow
 unfoldable pub users_facts : List Fact → ℕ → List RealmUser → List Fact

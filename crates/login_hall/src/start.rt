@@ -2,13 +2,12 @@ ghost use Rattle.std.specs.Prelude.{◌≡◌, ◌<◌, ◌≤◌, ◌+◌, ◌-
 ghost use Rattle.std.specs.Option.{option_copied};
 ghost use Rattle.facts.specs.Realms.{last_version};
 ghost use Rattle.facts.specs.Serials.{last_stored_serial};
-ghost use Rattle.admin_asks.specs.Account.{serials_of};
 ghost use Rattle.login_base.specs.Steps.{IsBlank};
-ghost use Rattle.login_hall.specs.Start.{put_without, IsPutGiven, IsPut, IsStart, realm_facts, new_user_facts, serial_after, users_facts, users_after};
+ghost use Rattle.login_hall.specs.Start.{put_without, IsPutGiven, IsPut, IsStart, realm_facts, secrets_of, new_user_facts, serial_after, users_facts, users_after};
 
-use admin_asks::add_account;
+use admin_asks::{GivenSecrets, add_account};
 use fact_scans::{account_named, current_realm, last_stored_serial, last_version};
-use facts::{Chronicle, Fact, Facts, PasswordHash, Realm, RealmUser};
+use facts::{Chronicle, Fact, Facts, Realm, RealmUser};
 use hall_answers::joined;
 use login_base::{Memory, Sequence, Steps, UserId};
 use std::alloc::Global;
@@ -72,12 +71,14 @@ fn realm_to_put(
     }
 }
 
-fn serials_of(password: &Option<PasswordHash>) -> u64
-    ensures { result ≡ serials_of password.now }
+/// The secrets that a user of the realm comes with.
+fn secrets_of(given: &RealmUser) -> GivenSecrets<'_>
+    ensures { result ≡ secrets_of given.now }
 {
-    match password {
-        Some(_) => 2,
-        None => 1,
+    GivenSecrets {
+        password: given.password,
+        otp: &given.otp,
+        recovery: &given.recovery,
     }
 }
 
@@ -93,11 +94,12 @@ fn add_new_user<L: Ledger>(
     requires { serial < 2 ^ 63 }
     ensures added { OnOk result (added.new ≡ added.old ++ new_user_facts facts.now serial given.now) }
     ensures serial { IfOk result (λ last. last ≡ serial_after facts.now serial given.now) }
-    ensures near { IfOk result (λ last. last ≤ serial + 2) }
+    ensures near { IfOk result (λ last. last ≤ serial + 4) }
 {
     if account_named(facts, &given.name, steps).is_some() {
         return Ok(serial);
     }
+    let secrets = secrets_of(given);
     add_account(
         alloc,
         added,
@@ -105,9 +107,9 @@ fn add_new_user<L: Ledger>(
         &given.name,
         &given.roles,
         given.enabled,
-        &given.password,
+        &secrets,
     )?;
-    Ok(serial + serials_of(&given.password))
+    Ok(serial + secrets.serials())
 }
 
 /// Adds the users of the realm whose names have no accounts.

@@ -1,5 +1,5 @@
 -- What a flow that doesn't hold asks, or why it asks nothing.
-use Rattle.std.specs.Prelude.{ℕ, Bool, true, false, not, if◌then◌else◌, List, [], ◌∷◌, Option, Some, None, find}
+use Rattle.std.specs.Prelude.{ℕ, Bool, true, false, not, if◌then◌else◌, List, [], ◌∷◌, Option, Some, None, find, unwrap_or}
 use Rattle.std.specs.List.{flat_map}
 use Rattle.conditions.specs.declared.account.AccountView.{AccountView}
 use Rattle.conditions.specs.declared.secret_kind.SecretKind.TheVariants as secrets
@@ -11,12 +11,13 @@ use Rattle.flow_tree.specs.Places.{places, kind_among, same_kind}
 use Rattle.asks.specs.declared.reply.Need.{Need}
 use Rattle.login_progress.specs.declared.progress.Progress.{Progress}
 use Rattle.login_progress.specs.declared.progress.Progress.TheVariants.{Denied, NotConfigured, DeadEnd}
+use Rattle.login_progress.specs.declared.account.Account.{Account}
 use Rattle.login_progress.specs.Account.{holds}
 
 -- ---- what can be answered
 
 -- a name, alone or with a password, by anyone; a secret alone by a user who has it; the rest by nobody
-abbrev pub can_answer : Option AccountView → Kind → Bool
+abbrev pub can_answer : Option Account → Kind → Bool
 can_answer account kinds.Allow = false
 can_answer account kinds.Deny = false
 can_answer account kinds.Cookie = false
@@ -26,15 +27,30 @@ can_answer account kinds.Password = holds account secrets.Password
 can_answer account kinds.Otp = holds account secrets.Otp
 can_answer account kinds.Recovery = holds account secrets.Recovery
 
-abbrev pub need_of : List ℕ → Kind → Need
-need_of id kind = record { id = id; kind = kind; number = 0 }
+abbrev pub next_in : Option Account → Option ℕ
+next_in None = None
+next_in (Some account) = account.next_code
 
-abbrev pub asked_as : Option AccountView → List ℕ → Option Kind → List Need
+-- the number that is asked: that of the next recovery code
+abbrev pub number_of : Option ℕ → Kind → ℕ
+number_of next kinds.Allow = 0
+number_of next kinds.Deny = 0
+number_of next kinds.Cookie = 0
+number_of next kinds.Username = 0
+number_of next kinds.Form = 0
+number_of next kinds.Password = 0
+number_of next kinds.Otp = 0
+number_of next kinds.Recovery = unwrap_or next 0
+
+abbrev pub need_of : Option Account → List ℕ → Kind → Need
+need_of account id kind = record { id = id; kind = kind; number = number_of (next_in account) kind }
+
+abbrev pub asked_as : Option Account → List ℕ → Option Kind → List Need
 asked_as account id None = []
-asked_as account id (Some kind) = if can_answer account kind then need_of id kind ∷ [] else []
+asked_as account id (Some kind) = if can_answer account kind then need_of account id kind ∷ [] else []
 
 -- the needs that can be answered, in their order
-unfoldable pub asked_of : List Exec → Option AccountView → List (List ℕ) → List Need
+unfoldable pub asked_of : List Exec → Option Account → List (List ℕ) → List Need
 asked_of tree account needs = flat_map (λ id. asked_as account id (kind_among id (places tree))) needs
 
 -- ---- why nothing is asked
@@ -54,9 +70,9 @@ unfoldable pub first_lacking : List Exec → AccountView → List (List ℕ) →
 first_lacking tree account needs = find (λ id. lacks_setup account (kind_among id (places tree))) needs
 
 -- the first need that a known user hasn't set up
-abbrev pub first_not_configured : List Exec → Option AccountView → List (List ℕ) → Option (List ℕ)
+abbrev pub first_not_configured : List Exec → Option Account → List (List ℕ) → Option (List ℕ)
 first_not_configured tree None needs = None
-first_not_configured tree (Some account) needs = first_lacking tree account needs
+first_not_configured tree (Some account) needs = first_lacking tree account.view needs
 
 abbrev pub not_configured : Option (List ℕ) → Progress
 not_configured None = DeadEnd
@@ -67,5 +83,5 @@ denied_or (Some id) other = Denied id
 denied_or None other = other
 
 -- a deny among the needs denies; else a need that the known user hasn't set up is named
-unfoldable pub blocked : List Exec → Option AccountView → List (List ℕ) → Progress
+unfoldable pub blocked : List Exec → Option Account → List (List ℕ) → Progress
 blocked tree account needs = denied_or (first_denied tree needs) (not_configured (first_not_configured tree account needs))

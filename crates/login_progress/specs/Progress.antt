@@ -1,6 +1,5 @@
 -- How far a tab's login has come.
 use Rattle.std.specs.Prelude.{ℕ, if◌then◌else◌, List, [], ◌∷◌, Option, Some, None}
-use Rattle.conditions.specs.declared.account.AccountView.{AccountView}
 use Rattle.login_base.specs.declared.id.TabKey.{TabKey}
 use Rattle.login_base.specs.declared.id.UserId.{UserId}
 use Rattle.flow_tree.specs.declared.exec.Exec.{Exec}
@@ -11,6 +10,7 @@ use Rattle.facts.specs.declared.fact.Fact.{Fact}
 use Rattle.asks.specs.declared.reply.Need.{Need}
 use Rattle.facts.specs.Realms.{realm_of}
 use Rattle.facts.specs.Tabs.{who_of}
+use Rattle.login_progress.specs.declared.account.Account.{Account}
 use Rattle.login_progress.specs.declared.known_tab.KnownTab.{KnownTab}
 use Rattle.login_progress.specs.declared.progress.Progress.{Progress}
 use Rattle.login_progress.specs.declared.progress.Progress.TheVariants.{Ready, Asked, DeadEnd}
@@ -23,7 +23,7 @@ asked_or [] other = other
 asked_or (need ∷ asked) other = Asked (need ∷ asked)
 
 -- what of the needs can be answered is asked; where nothing can, the login is blocked
-abbrev pub lacking_by : Option AccountView → List Exec → List (List ℕ) → Progress
+abbrev pub lacking_by : Option Account → List Exec → List (List ℕ) → Progress
 lacking_by account tree needs = asked_or (asked_of tree account needs) (blocked tree account needs)
 
 abbrev pub lacking : List Fact → Option UserId → List Exec → List (List ℕ) → Progress

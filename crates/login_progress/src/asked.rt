@@ -1,15 +1,15 @@
 ghost use Rattle.std.specs.Prelude.{◌≡◌, ◌++◌, IfOk, OnOk};
-ghost use Rattle.login_progress.specs.Asked.{can_answer, asked_as, asked_of};
+ghost use Rattle.login_progress.specs.Asked.{can_answer, next_in, number_of, asked_as, asked_of};
 
-use crate::account::holds;
-use conditions::{AccountView, SecretKind};
+use crate::account::{Account, holds};
+use conditions::SecretKind;
 use facts::Need;
 use flow_tree::{Kind, Tree};
 use login_base::{Duplicate, Memory, Name, Sequence};
 use std::alloc::Global;
 
 /// Whether an execution of this kind can be answered now.
-fn can_answer(account: &Option<AccountView>, kind: Kind) -> bool
+fn can_answer(account: &Option<Account>, kind: Kind) -> bool
     ensures { result ≡ can_answer account.now kind }
 {
     match kind {
@@ -21,10 +21,35 @@ fn can_answer(account: &Option<AccountView>, kind: Kind) -> bool
     }
 }
 
+fn next_in(account: &Option<Account>) -> Option<u32>
+    ensures { result ≡ next_in account.now }
+{
+    match account {
+        Some(account) => account.next_code,
+        None => None,
+    }
+}
+
+/// The number that is asked: that of the next recovery code.
+fn number_of(next: Option<u32>, kind: Kind) -> u32
+    ensures { result ≡ number_of next kind }
+{
+    match kind {
+        Kind::Recovery => next.unwrap_or(0),
+        Kind::Allow
+        | Kind::Deny
+        | Kind::Cookie
+        | Kind::Username
+        | Kind::Form
+        | Kind::Password
+        | Kind::Otp => 0,
+    }
+}
+
 /// Adds the execution where it can be answered.
 fn add_asked(
     alloc: Global,
-    account: &Option<AccountView>,
+    account: &Option<Account>,
     id: &Name,
     kind: Option<Kind>,
     asked: &mut Sequence<Need>,
@@ -35,7 +60,7 @@ fn add_asked(
         Some(kind) if can_answer(account, kind) => asked.push(Need {
             id: id.duplicate(alloc)?,
             kind,
-            number: 0,
+            number: number_of(next_in(account), kind),
         }),
         _ => Ok(()),
     }
@@ -46,7 +71,7 @@ fn add_asked(
 pub(crate) fn asked_of(
     alloc: Global,
     tree: &Tree,
-    account: &Option<AccountView>,
+    account: &Option<Account>,
     needs: &[Name],
 ) -> Result<Sequence<Need>, Memory>
     ensures { IfOk result (λ asked. asked ≡ asked_of tree.now account.now needs.now) }

@@ -8,8 +8,11 @@ mod blocked;
 mod known_tab;
 mod password;
 mod progress;
+mod recovery;
 mod truths;
 
+pub use account::Account;
 pub use known_tab::KnownTab;
 pub use password::password_for;
 pub use progress::{Progress, progress_of};
+pub use recovery::recovery_list;

@@ -2,12 +2,11 @@ ghost use Rattle.std.specs.Prelude.{◌≡◌, IfOk};
 ghost use Rattle.flow_tree.specs.Flow.{flow_needs};
 ghost use Rattle.login_progress.specs.Progress.{lacking_by, lacking, progress_in, progress_of};
 
-use crate::account::account_of;
+use crate::account::{Account, account_of};
 use crate::asked::asked_of;
 use crate::blocked::blocked;
 use crate::known_tab::KnownTab;
 use crate::truths::truths_of;
-use conditions::AccountView;
 use fact_scans::realm_of;
 use facts::{Facts, Need};
 use flow_tree::{Tree, Truths};
@@ -33,7 +32,7 @@ pub enum Progress {
 /// What is asked of these needs, or why nothing is.
 fn lacking_by(
     alloc: Global,
-    account: &Option<AccountView>,
+    account: &Option<Account>,
     tree: &Tree,
     needs: &[Name],
 ) -> Result<Progress, Memory>

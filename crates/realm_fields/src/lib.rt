@@ -28,6 +28,7 @@ pub use items::{few_at, up_to_at};
 pub use keys::check_keys;
 pub use levels::levels_at;
 pub use path::{item_path, key_path};
+pub use secrets::otp_of;
 pub use settings::lone_number_at;
 pub use stop::{Stop, missing};
 pub use values::{Reads, array, table};

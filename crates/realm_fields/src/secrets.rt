@@ -59,11 +59,12 @@ impl Reads for PasswordHash {
 
 // ---- one-time codes
 
-/// The secret of a base32 text, or none where it is no secret's.
-fn otp_of(alloc: Global, word: &str) -> Result<Option<OtpSecret>, Memory>
-    ensures { IfOk result (λ secret. secret ≡ otp_of word.now) }
+/// The secret of a base32 text (RFC 4648, section 6), or none where it is no secret's: one has 10
+/// to 64 bytes.
+pub fn otp_of(alloc: Global, word: &[u8]) -> Result<Option<OtpSecret>, Memory>
+    ensures ok { IfOk result (λ secret. secret ≡ otp_of word.now) }
 {
-    match base32_read(alloc, word.as_bytes()) {
+    match base32_read(alloc, word) {
         Ok(key) => Ok(OtpSecret::new(Sequence::from_vec(key))),
         Err(Base32Fault::Memory) => Err(Memory),
         Err(Base32Fault::BadLetter { .. } | Base32Fault::BadLength) => Ok(None),
@@ -81,7 +82,7 @@ impl Reads for OtpSecret {
 
     fn read(alloc: Global, path: &[u8], value: &Value) -> Result<OtpSecret, Stop> {
         let word = text(alloc, path, value)?;
-        match otp_of(alloc, word)? {
+        match otp_of(alloc, word.as_bytes())? {
             Some(secret) => {
                 let _key = secret.key();
                 Ok(secret)

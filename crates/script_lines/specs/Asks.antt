@@ -14,7 +14,7 @@ use Rattle.script_lines.specs.declared.account_verb.AccountVerb.TheVariants as k
 use Rattle.script_lines.specs.declared.pairs.Pair.{Pair}
 use Rattle.script_lines.specs.declared.place.Place.{Place}
 use Rattle.script_lines.specs.declared.place.Place.TheVariants as places
-use Rattle.script_lines.specs.Credentials.{has_replacement, exact_name, user_name, password_text, optional_password}
+use Rattle.script_lines.specs.Credentials.{has_replacement, exact_name, user_name, password_text, optional_password, secret_text, optional_secret}
 use Rattle.script_lines.specs.Keys.{root_given, id_given}
 use Rattle.script_lines.specs.Pairs.{value_of}
 use Rattle.script_lines.specs.Places.{◌>>=◌, place_text, ask_or_bad, absent}
@@ -32,20 +32,21 @@ new_tab client pairs = do
 
 -- ---- user-add
 
--- a password may be given; a one-time secret, roles and actions can't yet
-unfoldable pub user_setup : List Pair → Result (Unit {0}) Place
-user_setup pairs = do
+-- a password and a secret of one-time codes may be given; roles and actions can't yet
+unfoldable pub user_setup : List Pair → Result (Option (List ℕ)) Place → Result (Option (List ℕ)) Place
+user_setup pairs given = do
   password ← optional_password pairs
-  otp ← absent places.Otp pairs
+  otp ← given
   roles ← absent places.Roles pairs
-  absent places.Actions pairs
+  actions ← absent places.Actions pairs
+  Ok otp
 
-abbrev pub added_user : List ℕ → Option (List ℕ) → Result (Unit {0}) Place → Ask
-added_user name password (Ok setup) = asks.Admin accesses.Local (verbs.UserAdd (record { name = name; password = password; otp = None; roles = []; actions = [] }))
+abbrev pub added_user : List ℕ → Option (List ℕ) → Result (Option (List ℕ)) Place → Ask
+added_user name password (Ok otp) = asks.Admin accesses.Local (verbs.UserAdd (record { name = name; password = password; otp = otp; roles = []; actions = [] }))
 added_user name password (Err place) = asks.Bad (place_text place)
 
 abbrev pub user_add_ask : Option (List ℕ) → List Pair → Ask
-user_add_ask (Some name) pairs = added_user name (value_of (codes "password") pairs) (user_setup pairs)
+user_add_ask (Some name) pairs = added_user name (value_of (codes "password") pairs) (user_setup pairs (optional_secret places.Otp pairs))
 user_add_ask None pairs = asks.Bad (codes "name")
 
 -- ---- realm-put
@@ -68,10 +69,20 @@ set_password name password = do
   password ← ok_or password places.Password
   Ok (asks.Admin accesses.Local (verbs.SetPassword name password))
 
--- ---- enable, disable, unlock
+-- ---- otp-set
+
+-- a secret of one-time codes for the account of a name
+unfoldable pub otp_set : Option (List ℕ) → Option (List ℕ) → Result Ask Place
+otp_set name secret = do
+  name ← ok_or name places.Name
+  secret ← ok_or secret places.Secret
+  Ok (asks.Admin accesses.Local (verbs.OtpSet name secret))
+
+-- ---- otp-remove, enable, disable, unlock
 
 -- what is asked of the account of this name
 abbrev pub of_account : AccountVerb → List ℕ → AdminVerb
+of_account kinds.OtpRemove name = verbs.OtpRemove name
 of_account kinds.Enable name = verbs.Enable name
 of_account kinds.Disable name = verbs.Disable name
 of_account kinds.Unlock name = verbs.Unlock name
@@ -98,6 +109,8 @@ admin_ask verb pairs =
     if bytes_eq verb (codes "user-add") then user_add_ask name pairs
     else if bytes_eq verb (codes "realm-put") then realm_put_ask (value_of (codes "text") pairs)
     else if bytes_eq verb (codes "set-password") then ask_or_bad (set_password name (password_text (value_of (codes "password") pairs)))
+    else if bytes_eq verb (codes "otp-set") then ask_or_bad (otp_set name (secret_text (value_of (codes "secret") pairs)))
+    else if bytes_eq verb (codes "otp-remove") then account_ask kinds.OtpRemove name
     else if bytes_eq verb (codes "enable") then account_ask kinds.Enable name
     else if bytes_eq verb (codes "disable") then account_ask kinds.Disable name
     else if bytes_eq verb (codes "unlock") then account_ask kinds.Unlock name

@@ -13,6 +13,7 @@ use std::alloc::Global;
 /// A verb of an administrator that has a user's name alone.
 #[derive(Clone, Copy, Debug, PartialEq, Eq)]
 pub enum AccountVerb {
+    OtpRemove,
     Enable,
     Disable,
     Unlock,
@@ -23,6 +24,7 @@ fn of_account(verb: AccountVerb, name: Name) -> AdminVerb
     ensures { result ≡ of_account verb name }
 {
     match verb {
+        AccountVerb::OtpRemove => AdminVerb::OtpRemove { name },
         AccountVerb::Enable => AdminVerb::Enable { name },
         AccountVerb::Disable => AdminVerb::Disable { name },
         AccountVerb::Unlock => AdminVerb::Unlock { name },

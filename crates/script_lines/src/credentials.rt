@@ -1,6 +1,6 @@
 ghost use Rattle.std.specs.Prelude.{◌≡◌, IfOk};
 ghost use Rattle.std.specs.Option.{option_copied};
-ghost use Rattle.script_lines.specs.Credentials.{exact_name, user_name, has_replacement, is_password, password_text, password_given, optional_password};
+ghost use Rattle.script_lines.specs.Credentials.{exact_name, user_name, has_replacement, is_password, password_text, is_code, code_text, password_given, optional_password};
 
 use crate::pairs::{Pair, has, value_of};
 use crate::place::Place;
@@ -9,6 +9,9 @@ use std::alloc::Global;
 
 /// The most bytes of a password.
 const MOST_PASSWORD: usize = 256;
+
+/// The most bytes of a code.
+const MOST_CODE: usize = 32;
 
 /// The character that stands where bytes weren't UTF-8, in UTF-8.
 const REPLACEMENT: [u8; 3] = [0xef, 0xbf, 0xbd];
@@ -64,6 +67,25 @@ pub fn password_text(alloc: Global, value: Option<&[u8]>) -> Result<Option<Seque
 {
     match value {
         Some(value) if is_password(value) => copy_of(alloc, Some(value)),
+        _ => Ok(None),
+    }
+}
+
+/// Whether a text is a code: 1 to 32 letters or digits of ASCII.
+fn is_code(value: &[u8]) -> bool
+    ensures { result ≡ is_code value.now }
+{
+    !value.is_empty()
+        && value.len() <= MOST_CODE
+        && value.iter().all(|byte| byte.is_ascii_alphanumeric())
+}
+
+/// A copy of a one-time code or a recovery code, where it is well-formed.
+pub fn code_text(alloc: Global, value: Option<&[u8]>) -> Result<Option<Sequence<u8>>, Memory>
+    ensures code { IfOk result (λ code. code ≡ code_text (option_copied value.entry)) }
+{
+    match value {
+        Some(value) if is_code(value) => copy_of(alloc, Some(value)),
         _ => Ok(None),
     }
 }

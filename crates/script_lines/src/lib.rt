@@ -4,10 +4,10 @@
 //!
 //! - `lines`: a line, its moment, its draw number and its verb; `numbers`: decimal numbers
 //! - `pairs`: form-urlencoded pairs; `place`: where a line is malformed
-//! - `credentials`, `keys`: names, passwords and ids in pairs
+//! - `credentials`, `secrets`, `keys`: names, passwords, codes, secrets and ids in pairs
 //! - `step`: whether a line asks, begins an ask or settles one
 //! - `verbs`: the ask of each verb; `new_tab`, `post_target` and `post`, `user_add`, `realm_put`, `set_password`,
-//!   `account_verb`: its pairs
+//!   `otp_set`, `account_verb`: its pairs
 #![tactic(auto)]
 
 mod account_verb;
@@ -16,11 +16,13 @@ mod keys;
 mod lines;
 mod new_tab;
 mod numbers;
+mod otp_set;
 mod pairs;
 mod place;
 mod post;
 mod post_target;
 mod realm_put;
+mod secrets;
 mod set_password;
 mod step;
 mod user_add;

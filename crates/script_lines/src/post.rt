@@ -2,7 +2,7 @@ ghost use Rattle.std.specs.Prelude.{◌≡◌, IfOk};
 ghost use Rattle.script_lines.specs.Places.{ask_or_bad};
 ghost use Rattle.script_lines.specs.Posts.{form_with, form_of, post};
 
-use crate::credentials::{exact_name, password_text, user_name};
+use crate::credentials::{code_text, exact_name, password_text, user_name};
 use crate::pairs::{Pair, value_of};
 use crate::place::{Place, bad};
 use crate::post_target::{FormKind, post_target};
@@ -17,8 +17,9 @@ fn form_with(
     execution: Option<Name>,
     name: Option<Name>,
     password: Option<Sequence<u8>>,
+    value: Option<Sequence<u8>>,
 ) -> Result<Form, Place>
-    ensures { result ≡ form_with kind execution name password }
+    ensures { result ≡ form_with kind execution name password value }
 {
     let execution = execution.ok_or(Place::Execution)?;
     match kind {
@@ -35,6 +36,10 @@ fn form_with(
             name: name.ok_or(Place::Name)?,
             password: password.ok_or(Place::Password)?,
         }),
+        FormKind::Value => Ok(Form::Value {
+            execution,
+            value: value.ok_or(Place::Value)?,
+        }),
     }
 }
 
@@ -45,7 +50,8 @@ fn form_of(alloc: Global, kind: FormKind, pairs: &[Pair]) -> Result<Result<Form,
     let execution = exact_name(alloc, value_of(pairs, b"execution"))?;
     let name = user_name(alloc, value_of(pairs, b"name"))?;
     let password = password_text(alloc, value_of(pairs, b"password"))?;
-    Ok(form_with(kind, execution, name, password))
+    let value = code_text(alloc, value_of(pairs, b"value"))?;
+    Ok(form_with(kind, execution, name, password, value))
 }
 
 /// The ask of a post's pairs.

@@ -12,6 +12,7 @@ pub enum FormKind {
     Username,
     Password,
     NamePassword,
+    Value,
 }
 
 /// What a post is posted to, and as which form.
@@ -23,15 +24,16 @@ pub struct PostTarget {
     pub form: FormKind,
 }
 
-/// The form of a name, a password, or both.
-fn kind_with(name: bool, password: bool) -> Result<FormKind, Place>
-    ensures { result ≡ kind_with name password }
+/// The form of a name, a password, both, or a value.
+fn kind_with(name: bool, password: bool, value: bool) -> Result<FormKind, Place>
+    ensures { result ≡ kind_with name password value }
 {
-    match (name, password) {
-        (true, false) => Ok(FormKind::Username),
-        (false, true) => Ok(FormKind::Password),
-        (true, true) => Ok(FormKind::NamePassword),
-        (false, false) => Err(Place::Form),
+    match (name, password, value) {
+        (true, false, false) => Ok(FormKind::Username),
+        (false, true, false) => Ok(FormKind::Password),
+        (true, true, false) => Ok(FormKind::NamePassword),
+        (false, false, true) => Ok(FormKind::Value),
+        _ => Err(Place::Form),
     }
 }
 
@@ -39,8 +41,12 @@ fn kind_with(name: bool, password: bool) -> Result<FormKind, Place>
 fn form_kind(pairs: &[Pair]) -> Result<FormKind, Place>
     ensures { result ≡ form_kind pairs.now }
 {
-    if has(pairs, b"execution") && !has(pairs, b"action") && !has(pairs, b"value") {
-        kind_with(has(pairs, b"name"), has(pairs, b"password"))
+    if has(pairs, b"execution") && !has(pairs, b"action") {
+        kind_with(
+            has(pairs, b"name"),
+            has(pairs, b"password"),
+            has(pairs, b"value"),
+        )
     } else {
         Err(Place::Form)
     }

@@ -4,6 +4,7 @@ ghost use Rattle.script_lines.specs.Asks.{page, admin_ask, verb_ask};
 use crate::account_verb::{AccountVerb, account_ask};
 use crate::keys::{id_given, root_given};
 use crate::new_tab::open_ask;
+use crate::otp_set::otp_set_ask;
 use crate::pairs::Pair;
 use crate::place::{Place, ask_or_bad, bad};
 use crate::post::post_ask;
@@ -39,6 +40,12 @@ fn admin_ask(alloc: Global, verb: &[u8], pairs: &[Pair]) -> Result<Ask, Memory>
     }
     if verb == b"set-password".as_slice() {
         return set_password_ask(alloc, pairs);
+    }
+    if verb == b"otp-set".as_slice() {
+        return otp_set_ask(alloc, pairs);
+    }
+    if verb == b"otp-remove".as_slice() {
+        return account_ask(alloc, AccountVerb::OtpRemove, pairs);
     }
     if verb == b"enable".as_slice() {
         return account_ask(alloc, AccountVerb::Enable, pairs);

@@ -24,11 +24,14 @@ use Rattle.login_progress.specs.declared.progress.Progress.TheVariants as progre
 use Rattle.login_progress.specs.Progress.{progress_of, asked_in}
 use Rattle.tab_asks.specs.declared.check.Check.{Check}
 use Rattle.tab_asks.specs.declared.check.Check.TheVariants as checks
+use Rattle.tab_asks.specs.declared.check.Credential.{Credential}
+use Rattle.tab_asks.specs.declared.check.Spent.{Spent}
+use Rattle.tab_asks.specs.declared.check.Spent.TheVariants as spends
 use Rattle.tab_asks.specs.declared.passing.Passing.{Passing}
-use Rattle.tab_asks.specs.Forms.{evidence_of}
+use Rattle.tab_asks.specs.Forms.{code_evidence, evidence_of}
 use Rattle.tab_asks.specs.NewTab.{check_new_tab, opening_fact, new_tab_answer, due_new_tab}
 use Rattle.tab_asks.specs.Pages.{completion, progress_answer, tab_answer, tab_answer_then, visit_answer, due_page}
-use Rattle.tab_asks.specs.Post.{check_post, check_form, evidence_by, answer_to_accepted, answer_to_wrong, answer_to_check, post_where, post_by, post_in, due_post}
+use Rattle.tab_asks.specs.Post.{check_post, check_form, evidence_by, answer_to_accepted, shown_again, answer_to_check, post_where, post_by, post_in, due_post}
 use Rattle.tab_asks.specs.Visit.{check_tab, check_visit}
 
 -- ---- what a tab is answered
@@ -88,32 +91,38 @@ page_lifts setting root tab = shown_lifts setting (check_tab setting.facts root 
 
 -- ---- posts
 
+code_lifts : (old : List Fact) (passing : Passing) (execution : List ℕ) (spent : Spent) → Lifts 0 old (code_evidence passing execution spent)
+code_lifts old passing execution spends.Nothing = nothing 0 old
+code_lifts old passing execution (spends.Step step) = lifts 0 old _ (omega arith) (omega arith) refl
+code_lifts old passing execution (spends.Number number) = lifts 0 old _ (omega arith) (omega arith) refl
+
 evidence_lifts : (old : List Fact) (passing : Passing) (form : Form) → Lifts 0 old (evidence_of passing form)
 evidence_lifts old passing (forms.Username execution name) = lifts 0 old _ (omega arith) (omega arith) refl
 evidence_lifts old passing (forms.NamePassword execution name password) = lifts 0 old _ (omega arith) (omega arith) refl
 evidence_lifts old passing (forms.Password execution password) = lifts 0 old _ (omega arith) (omega arith) refl
-evidence_lifts old passing (forms.Value execution value) = nothing 0 old
+evidence_lifts old passing (forms.Value execution value) = code_lifts old passing execution passing.credential.spent
 evidence_lifts old passing forms.Terms = nothing 0 old
 evidence_lifts old passing (forms.UpdatePassword password) = nothing 0 old
 evidence_lifts old passing (forms.ConfigureOtp value) = nothing 0 old
 evidence_lifts old passing forms.RecoveryCodes = nothing 0 old
 evidence_lifts old passing forms.VerifyEmail = nothing 0 old
 
-accepted_lifts : (setting : Setting) (known : KnownTab) (form : Form) (user : UserId) (credential : ℕ) → Lifts 1 setting.facts (answer_to_accepted setting known form user credential).added
+accepted_lifts : (setting : Setting) (known : KnownTab) (form : Form) (user : UserId) (credential : Credential) → Lifts 1 setting.facts (answer_to_accepted setting known form user credential).added
 unfolding answer_to_accepted
 accepted_lifts setting known form user credential =
     let evidence = evidence_by setting known form user credential in
     both 0 1 setting.facts evidence _ (evidence_lifts setting.facts _ form) (tab_lifts (setting.facts ++ evidence) setting _)
 
-wrong_lifts : (setting : Setting) (tab : TabKey) (asked : List Need) (user : Option UserId) → Lifts 1 setting.facts (answer_to_wrong setting tab asked user).added
-unfolding answer_to_wrong
-wrong_lifts setting tab asked None = lifts 1 setting.facts _ (omega arith) (omega arith) refl
-wrong_lifts setting tab asked (Some user) = lifts 1 setting.facts _ (omega arith) (omega arith) refl
+again_lifts : (setting : Setting) (tab : TabKey) (user : Option UserId) → Lifts 1 setting.facts (shown_again setting tab user)
+again_lifts setting tab None = lifts 1 setting.facts _ (omega arith) (omega arith) refl
+again_lifts setting tab (Some user) = lifts 1 setting.facts _ (omega arith) (omega arith) refl
 
 check_lifts : (setting : Setting) (known : KnownTab) (asked : List Need) (form : Form) (check : Check) → Lifts 1 setting.facts (answer_to_check setting known asked form check).added
 unfolding answer_to_check
 check_lifts setting known asked form (checks.Fits user credential) = accepted_lifts setting known form user credential
-check_lifts setting known asked form (checks.Wrong user) = wrong_lifts setting known.tab asked user
+check_lifts setting known asked form (checks.Wrong user) = again_lifts setting known.tab user
+check_lifts setting known asked form (checks.WrongCode user) = again_lifts setting known.tab user
+check_lifts setting known asked form (checks.SpentCode step) = again_lifts setting known.tab None
 
 form_lifts : (setting : Setting) (known : KnownTab) (asked : List Need) (form : Form) (check : Result Check Refusal)
     → Lifts 1 setting.facts (settled setting.facts (Some known.tab) (answer_to_check setting known asked form) check).added
@@ -125,7 +134,7 @@ named_lifts : (setting : Setting) (form : Form) (finding : Finding) (known : Kno
 unfolding post_where
 named_lifts setting form finding known (Ok named) =
     let asked = asked_in (progress_of setting.facts setting.moment known) in
-    form_lifts setting known asked form (check_form setting.facts setting.moment known asked named form finding)
+    form_lifts setting known asked form (check_form setting known asked named form finding)
 named_lifts setting form finding known (Err refusal) = nothing 1 setting.facts
 
 known_lifts : (setting : Setting) (post : Post) (finding : Finding) (known : Result KnownTab Refusal)

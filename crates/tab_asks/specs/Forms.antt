@@ -1,5 +1,5 @@
 -- The forms of a post: whom each names, whose password it gives, and which execution it answers.
-use Rattle.std.specs.Prelude.{ℕ, Bool, false, ◌&&◌, List, [], ◌∷◌, Option, None}
+use Rattle.std.specs.Prelude.{ℕ, Bool, false, ◌&&◌, ◌||◌, List, [], ◌∷◌, Option, None}
 use Rattle.std.specs.Option.{option_or}
 use Rattle.std.specs.Str.{bytes_eq}
 use Rattle.conditions.specs.Secrets.{secret_of}
@@ -13,6 +13,8 @@ use Rattle.facts.specs.declared.fact.Fact.{Fact}
 use Rattle.facts.specs.declared.fact.Fact.TheVariants as events
 use Rattle.asks.specs.declared.reply.Need.{Need}
 use Rattle.facts.specs.Accounts.{account_named}
+use Rattle.tab_asks.specs.declared.check.Spent.{Spent}
+use Rattle.tab_asks.specs.declared.check.Spent.TheVariants as spends
 use Rattle.tab_asks.specs.declared.passing.Passing.{Passing}
 
 -- the user whom it names
@@ -46,12 +48,12 @@ concerned named who = option_or named who
 abbrev pub is_need : Need → List ℕ → Kind → Bool
 is_need need execution kind = bytes_eq need.id execution && same_kind need.kind kind
 
--- it is a form of this execution; codes and actions are asked nowhere yet
+-- it is a form of this execution: a value is one of a one-time code and of a recovery code; actions are asked nowhere yet
 abbrev pub is_of : Need → Form → Bool
 is_of need (forms.Username execution name) = is_need need execution kinds.Username
 is_of need (forms.Password execution password) = is_need need execution kinds.Password
 is_of need (forms.NamePassword execution name password) = is_need need execution kinds.Form
-is_of need (forms.Value execution value) = false
+is_of need (forms.Value execution value) = is_need need execution kinds.Otp || is_need need execution kinds.Recovery
 is_of need forms.Terms = false
 is_of need (forms.UpdatePassword password) = false
 is_of need (forms.ConfigureOtp value) = false
@@ -62,14 +64,22 @@ abbrev pub name_fact : Passing → Fact
 name_fact passing = events.Named passing.tab passing.user
 
 abbrev pub evidence_fact : Passing → List ℕ → Kind → Fact
-evidence_fact passing execution kind = events.Passed passing.tab execution passing.user (secret_of kind) passing.credential passing.moment
+evidence_fact passing execution kind = events.Passed passing.tab execution passing.user (secret_of kind) passing.credential.serial passing.moment
+
+-- a code is evidence of its kind, and is used up
+abbrev pub code_evidence : Passing → List ℕ → Spent → List Fact
+code_evidence passing execution spends.Nothing = []
+code_evidence passing execution (spends.Step step) =
+    evidence_fact passing execution kinds.Otp ∷ events.SpentStep passing.credential.serial step ∷ []
+code_evidence passing execution (spends.Number number) =
+    evidence_fact passing execution kinds.Recovery ∷ events.SpentRecovery passing.credential.serial number ∷ []
 
 -- the evidence of an accepted post: whom it names, and the execution that it passes
 abbrev pub evidence_of : Passing → Form → List Fact
 evidence_of passing (forms.Username execution name) = name_fact passing ∷ evidence_fact passing execution kinds.Username ∷ []
 evidence_of passing (forms.NamePassword execution name password) = name_fact passing ∷ evidence_fact passing execution kinds.Form ∷ []
 evidence_of passing (forms.Password execution password) = evidence_fact passing execution kinds.Password ∷ []
-evidence_of passing (forms.Value execution value) = []
+evidence_of passing (forms.Value execution value) = code_evidence passing execution passing.credential.spent
 evidence_of passing forms.Terms = []
 evidence_of passing (forms.UpdatePassword password) = []
 evidence_of passing (forms.ConfigureOtp value) = []

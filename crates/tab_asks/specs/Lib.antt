@@ -1,3 +1,4 @@
+pub mod Codes
 pub mod Forms
 pub mod NewTab
 pub mod Pages

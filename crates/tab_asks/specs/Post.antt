@@ -14,6 +14,7 @@ use Rattle.asks.specs.declared.finding.Finding.{Finding}
 use Rattle.asks.specs.declared.finding.Finding.TheVariants as findings
 use Rattle.facts.specs.declared.user_password.UserPassword.{UserPassword}
 use Rattle.asks.specs.declared.reply.Need.{Need}
+use Rattle.asks.specs.declared.reply.Next.{Next}
 use Rattle.asks.specs.declared.reply.Next.TheVariants as nexts
 use Rattle.asks.specs.declared.reply.What.TheVariants as whats
 use Rattle.facts.specs.Tabs.{live_session, who_of, tab_state}
@@ -28,7 +29,10 @@ use Rattle.login_progress.specs.declared.known_tab.KnownTab.{KnownTab}
 use Rattle.login_progress.specs.PasswordFor.{password_for}
 use Rattle.login_progress.specs.Progress.{progress_of, asked_in}
 use Rattle.tab_asks.specs.declared.check.Check.{Check}
+use Rattle.tab_asks.specs.declared.check.Credential.{Credential}
+use Rattle.tab_asks.specs.declared.check.Spent.TheVariants as spends
 use Rattle.tab_asks.specs.declared.check.Check.TheVariants as checks
+use Rattle.tab_asks.specs.Codes.{code_check}
 use Rattle.tab_asks.specs.Forms.{named_by, target_of, concerned, is_of, evidence_of}
 use Rattle.tab_asks.specs.Pages.{page_fact, tab_answer}
 use Rattle.tab_asks.specs.Visit.{check_tab, check_account, check_whole, same_user, check_unfinished, user_of}
@@ -79,36 +83,36 @@ check_credential password finding = if had_by finding == serial_of password then
 
 -- the user is there, has a password, and it fits
 unfoldable pub password_check : Option UserId → Option UserPassword → Finding → Check
-password_check (Some user) (Some kept) (findings.Checked had true) = checks.Fits user kept.serial
+password_check (Some user) (Some kept) (findings.Checked had true) = checks.Fits user (record { serial = kept.serial; spent = spends.Nothing })
 password_check user password finding = checks.Wrong user
 
 -- a name alone has to be that of a user
 abbrev pub name_check : Option UserId → Check
-name_check (Some user) = checks.Fits user 0
+name_check (Some user) = checks.Fits user (record { serial = 0; spent = spends.Nothing })
 name_check None = checks.Wrong None
 
-abbrev pub check_of : Option UserId → Option UserId → Option UserPassword → Form → Finding → Check
-check_of named target password (forms.Username execution name) finding = name_check named
-check_of named target password (forms.Password execution given) finding = password_check target password finding
-check_of named target password (forms.NamePassword execution name given) finding = password_check target password finding
-check_of named target password (forms.Value execution value) finding = password_check target password finding
-check_of named target password forms.Terms finding = password_check target password finding
-check_of named target password (forms.UpdatePassword given) finding = password_check target password finding
-check_of named target password (forms.ConfigureOtp value) finding = password_check target password finding
-check_of named target password forms.RecoveryCodes finding = password_check target password finding
-check_of named target password forms.VerifyEmail finding = password_check target password finding
+-- by the form, where `named` is whom it names, and `who` the one whose login it is
+abbrev pub check_of : Setting → List Need → Option UserId → Option UserId → Option UserPassword → Form → Finding → Check
+check_of setting asked named who password (forms.Username execution name) finding = name_check named
+check_of setting asked named who password (forms.Password execution given) finding = password_check who password finding
+check_of setting asked named who password (forms.NamePassword execution name given) finding = password_check named password finding
+check_of setting asked named who password (forms.Value execution value) finding = code_check setting asked who execution value
+check_of setting asked named who password forms.Terms finding = checks.Wrong None
+check_of setting asked named who password (forms.UpdatePassword given) finding = checks.Wrong None
+check_of setting asked named who password (forms.ConfigureOtp value) finding = checks.Wrong None
+check_of setting asked named who password forms.RecoveryCodes finding = checks.Wrong None
+check_of setting asked named who password forms.VerifyEmail finding = checks.Wrong None
 
 -- the check of a form that names this user, where these executions are asked, or the first refusal
-unfoldable pub check_form : List Fact → ℕ → KnownTab → List Need → Option UserId → Form → Finding → Result Check Refusal
-check_form facts moment known asked named form finding =
-    let who = who_of moment known.state in
-    let target = target_of named who form in
-    let password = password_for facts target in
+unfoldable pub check_form : Setting → KnownTab → List Need → Option UserId → Form → Finding → Result Check Refusal
+check_form setting known asked named form finding =
+    let who = who_of setting.moment known.state in
+    let password = password_for setting.facts (target_of named who form) in
     do
       fitting ← check_asked asked form
-      account ← check_account facts moment (concerned named who)
+      account ← check_account setting.facts setting.moment (concerned named who)
       kept ← check_credential password finding
-      Ok (check_of named target password form finding)
+      Ok (check_of setting asked named who password form finding)
 
 -- ---- answers
 
@@ -117,11 +121,11 @@ abbrev pub known_over : KnownTab → List Fact → KnownTab
 known_over known facts = record known { state = tab_state known.root known.tab facts }
 
 -- the evidence that an accepted post adds
-abbrev pub evidence_by : Setting → KnownTab → Form → UserId → ℕ → List Fact
+abbrev pub evidence_by : Setting → KnownTab → Form → UserId → Credential → List Fact
 evidence_by setting known form user credential = evidence_of (record { tab = known.tab; user = user; credential = credential; moment = setting.moment }) form
 
 -- the evidence is added, and stays; then the tab is answered over it
-unfoldable pub answer_to_accepted : Setting → KnownTab → Form → UserId → ℕ → Answer
+unfoldable pub answer_to_accepted : Setting → KnownTab → Form → UserId → Credential → Answer
 answer_to_accepted setting known form user credential =
     let evidence = evidence_by setting known form user credential in
     let more = setting.facts ++ evidence in
@@ -133,19 +137,27 @@ failure_of None moment = []
 failure_of (Some user) moment = events.Failed user moment ∷ []
 
 -- the same page again, with a new code
-unfoldable pub answer_to_wrong : Setting → TabKey → List Need → Option UserId → Answer
-answer_to_wrong setting tab asked user =
-    answer_in tab (whats.BadCredentials (nexts.Form (next_code setting.facts setting.draws) asked))
-    (failure_of user setting.moment ++ page_fact tab (next_code setting.facts setting.draws) ∷ [])
+abbrev pub next_page : Setting → List Need → Next
+next_page setting asked = nexts.Form (next_code setting.facts setting.draws) asked
 
+-- a failure of the user, if it counts as one, and the page with its new code
+abbrev pub shown_again : Setting → TabKey → Option UserId → List Fact
+shown_again setting tab user = failure_of user setting.moment ++ page_fact tab (next_code setting.facts setting.draws) ∷ []
+
+-- a code that was used is no failure
 unfoldable pub answer_to_check : Setting → KnownTab → List Need → Form → Check → Answer
 answer_to_check setting known asked form (checks.Fits user credential) = answer_to_accepted setting known form user credential
-answer_to_check setting known asked form (checks.Wrong user) = answer_to_wrong setting known.tab asked user
+answer_to_check setting known asked form (checks.Wrong user) =
+    answer_in known.tab (whats.BadCredentials (next_page setting asked)) (shown_again setting known.tab user)
+answer_to_check setting known asked form (checks.WrongCode user) =
+    answer_in known.tab (whats.BadCode (next_page setting asked)) (shown_again setting known.tab user)
+answer_to_check setting known asked form (checks.SpentCode step) =
+    answer_in known.tab (whats.CodeSpent step (next_page setting asked)) (shown_again setting known.tab None)
 
 -- in a known tab where these executions are asked
 unfoldable pub post_where : Setting → Form → Finding → KnownTab → Option UserId → List Need → Answer
 post_where setting form finding known named asked =
-    settled setting.facts (Some known.tab) (answer_to_check setting known asked form) (check_form setting.facts setting.moment known asked named form finding)
+    settled setting.facts (Some known.tab) (answer_to_check setting known asked form) (check_form setting known asked named form finding)
 
 abbrev pub post_by : Setting → Form → Finding → KnownTab → Option UserId → Answer
 post_by setting form finding known named = post_where setting form finding known named (asked_in (progress_of setting.facts setting.moment known))

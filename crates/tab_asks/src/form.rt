@@ -52,7 +52,7 @@ pub(crate) fn concerned(named: Option<UserId>, who: Option<UserId>) -> Option<Us
     named.or(who)
 }
 
-fn is_need(need: &Need, execution: &Name, kind: Kind) -> bool
+pub(crate) fn is_need(need: &Need, execution: &Name, kind: Kind) -> bool
     ensures { result ≡ is_need need.now execution.now kind }
 {
     need.id == *execution && need.kind == kind
@@ -66,8 +66,10 @@ pub(crate) fn is_of(need: &Need, form: &Form) -> bool
         Form::Username { execution, .. } => is_need(need, execution, Kind::Username),
         Form::Password { execution, .. } => is_need(need, execution, Kind::Password),
         Form::NamePassword { execution, .. } => is_need(need, execution, Kind::Form),
-        Form::Value { .. }
-        | Form::Terms
+        Form::Value { execution, .. } => {
+            is_need(need, execution, Kind::Otp) || is_need(need, execution, Kind::Recovery)
+        }
+        Form::Terms
         | Form::UpdatePassword { .. }
         | Form::ConfigureOtp { .. }
         | Form::RecoveryCodes

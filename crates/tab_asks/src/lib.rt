@@ -3,6 +3,7 @@
 #![tactic(auto)]
 
 mod check;
+mod codes;
 mod form;
 mod new_tab;
 mod pages;

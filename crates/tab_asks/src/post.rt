@@ -2,6 +2,7 @@ ghost use Rattle.std.specs.Prelude.{◌≡◌, ◌-◌, ◌^◌, ◌++◌, IfOk,
 ghost use Rattle.facts.specs.Tabs.{tab_state};
 ghost use Rattle.hall_answers.specs.HasSerials.{HasSerials};
 ghost use Rattle.login_progress.specs.Progress.{asked_in};
+ghost use Rattle.tab_asks.specs.declared.check.Spent.TheVariants as spends;
 ghost use Rattle.tab_asks.specs.Post.{
   is_code,
   check_code,
@@ -19,7 +20,8 @@ ghost use Rattle.tab_asks.specs.Post.{
   known_over,
   answer_to_accepted,
   failure_of,
-  answer_to_wrong,
+  next_page,
+  shown_again,
   answer_to_check,
   post_where,
   post_by,
@@ -27,7 +29,8 @@ ghost use Rattle.tab_asks.specs.Post.{
   due_post,
 };
 
-use crate::check::Check;
+use crate::check::{Check, Credential, Spent};
+use crate::codes::code_check;
 use crate::form::{concerned, is_of, named_by, target_of};
 use crate::pages::{page_fact, tab_answer};
 use crate::passing::Passing;
@@ -141,6 +144,16 @@ fn check_credential(password: &Option<UserPassword>, finding: &Finding) -> Resul
 
 // ---- the check
 
+/// The secret of a serial, of which nothing is used up.
+fn unspent(serial: u64) -> Credential
+    ensures { result ≡ record { serial = serial; spent = spends.Nothing } }
+{
+    Credential {
+        serial,
+        spent: Spent::Nothing,
+    }
+}
+
 /// The user is there, has a password, and it fits.
 #[tactic(auto, unfolding(crate::specs::Post::password_check))]
 fn password_check(user: Option<UserId>, password: Option<UserPassword>, finding: &Finding) -> Check
@@ -149,7 +162,7 @@ fn password_check(user: Option<UserId>, password: Option<UserPassword>, finding:
     match (user, password, finding) {
         (Some(user), Some(kept), Finding::Checked { fits: true, .. }) => Check::Fits {
             user,
-            credential: kept.serial,
+            credential: unspent(kept.serial),
         },
         _ => Check::Wrong { user },
     }
@@ -162,31 +175,37 @@ fn name_check(named: Option<UserId>) -> Check
     match named {
         Some(user) => Check::Fits {
             user,
-            credential: 0,
+            credential: unspent(0),
         },
         None => Check::Wrong { user: None },
     }
 }
 
-fn check_of(
+/// What a form comes to, where `named` is whom it names, and `who` the one whose login it is.
+fn check_of<L: Ledger>(
+    setting: &Setting<'_>,
+    asked: &[Need],
     named: Option<UserId>,
-    target: Option<UserId>,
+    who: Option<UserId>,
     password: Option<UserPassword>,
     form: &Form,
     finding: &Finding,
-) -> Check
-    ensures { result ≡ check_of named target password form.now finding.now }
+    steps: &mut Steps<L>,
+) -> Result<Check, Memory>
+    ensures { IfOk result (λ check. check ≡ check_of setting.now asked.now named who password form.now finding.now) }
 {
     match form {
-        Form::Username { .. } => name_check(named),
-        Form::Password { .. }
-        | Form::NamePassword { .. }
-        | Form::Value { .. }
-        | Form::Terms
+        Form::Username { .. } => Ok(name_check(named)),
+        Form::Password { .. } => Ok(password_check(who, password, finding)),
+        Form::NamePassword { .. } => Ok(password_check(named, password, finding)),
+        Form::Value { execution, value } => {
+            code_check(setting, asked, who, execution, value.as_slice(), steps)
+        }
+        Form::Terms
         | Form::UpdatePassword { .. }
         | Form::ConfigureOtp { .. }
         | Form::RecoveryCodes
-        | Form::VerifyEmail => password_check(target, password, finding),
+        | Form::VerifyEmail => Ok(Check::Wrong { user: None }),
     }
 }
 
@@ -194,24 +213,30 @@ fn check_of(
 /// refusal.
 #[tactic(auto, unfolding(crate::specs::Post::check_form))]
 fn check_form<L: Ledger>(
-    facts: &Facts<'_>,
-    moment: Moment,
+    setting: &Setting<'_>,
     known: &KnownTab,
     asked: &[Need],
     named: Option<UserId>,
     form: &Form,
     finding: &Finding,
     steps: &mut Steps<L>,
-) -> Result<Check, Refusal>
-    ensures { result ≡ check_form facts.now moment known.now asked.now named form.now finding.now }
+) -> Result<Result<Check, Refusal>, Memory>
+    ensures { IfOk result (λ check. check ≡ check_form setting.now known.now asked.now named form.now finding.now) }
 {
-    let who = known.state.who(moment);
-    check_asked(asked, form)?;
-    check_account(facts, moment, concerned(named, who), steps)?;
-    let target = target_of(named, who, form);
-    let password = password_for(facts, target, steps);
-    check_credential(&password, finding)?;
-    Ok(check_of(named, target, password, form, finding))
+    let facts = setting.facts();
+    let who = known.state.who(setting.moment);
+    if let Err(refusal) = check_asked(asked, form) {
+        return Ok(Err(refusal));
+    }
+    if let Err(refusal) = check_account(&facts, setting.moment, concerned(named, who), steps) {
+        return Ok(Err(refusal));
+    }
+    let password = password_for(&facts, target_of(named, who, form), steps);
+    if let Err(refusal) = check_credential(&password, finding) {
+        return Ok(Err(refusal));
+    }
+    let check = check_of(setting, asked, named, who, password, form, finding, steps)?;
+    Ok(Ok(check))
 }
 
 // ---- answers
@@ -234,7 +259,7 @@ fn answer_to_accepted<L: Ledger>(
     known: &KnownTab,
     form: &Form,
     user: UserId,
-    credential: u64,
+    credential: Credential,
     steps: &mut Steps<L>,
 ) -> Result<Answer, Memory>
     requires state { known.now.state ≡ tab_state known.now.root known.now.tab setting.now.facts }
@@ -269,22 +294,30 @@ fn add_failure(
 }
 
 /// The same page again, with a new code.
-#[tactic(auto, unfolding(crate::specs::Post::answer_to_wrong))]
-fn answer_to_wrong(
+fn next_page(setting: &Setting<'_>, asked: Sequence<Need>) -> Next
+    requires serials { HasSerials setting.now.facts (2 ^ 63 - 8) }
+    ensures { result ≡ next_page setting.now asked }
+{
+    Next::Form {
+        code: next_code(&setting.facts(), setting.draws),
+        asked,
+    }
+}
+
+/// A failure of the user, if it counts as one, and the page with its new code.
+fn shown_again(
     setting: &Setting<'_>,
     tab: TabKey,
-    asked: Sequence<Need>,
     user: Option<UserId>,
-) -> Result<Answer, Memory>
+) -> Result<Sequence<Fact>, Memory>
     requires serials { HasSerials setting.now.facts (2 ^ 63 - 8) }
-    ensures { IfOk result (λ answer. answer ≡ answer_to_wrong setting.now tab asked user) }
+    ensures { IfOk result (λ added. added ≡ shown_again setting.now tab user) }
 {
-    let code = next_code(&setting.facts(), setting.draws);
     let mut added = Sequence::new(setting.alloc);
     add_failure(&mut added, user, setting.moment)?;
+    let code = next_code(&setting.facts(), setting.draws);
     added.push(page_fact(tab, code))?;
-    let next = Next::Form { code, asked };
-    Ok(Answer::in_tab(tab, What::BadCredentials { next }, added))
+    Ok(added)
 }
 
 /// What a post is due whose check came out so.
@@ -301,12 +334,27 @@ fn answer_to_check<L: Ledger>(
     requires serials { HasSerials setting.now.facts (2 ^ 63 - 8) }
     ensures { IfOk result (λ answer. answer ≡ answer_to_check setting.now known.now asked form.now check) }
 {
+    let tab = known.tab;
     match check {
         Check::Fits { user, credential } => {
             discard(asked);
             answer_to_accepted(setting, known, form, user, credential, steps)
         }
-        Check::Wrong { user } => answer_to_wrong(setting, known.tab, asked, user),
+        Check::Wrong { user } => {
+            let added = shown_again(setting, tab, user)?;
+            let next = next_page(setting, asked);
+            Ok(Answer::in_tab(tab, What::BadCredentials { next }, added))
+        }
+        Check::WrongCode { user } => {
+            let added = shown_again(setting, tab, user)?;
+            let next = next_page(setting, asked);
+            Ok(Answer::in_tab(tab, What::BadCode { next }, added))
+        }
+        Check::SpentCode { step } => {
+            let added = shown_again(setting, tab, None)?;
+            let next = next_page(setting, asked);
+            Ok(Answer::in_tab(tab, What::CodeSpent { step, next }, added))
+        }
     }
 }
 
@@ -325,11 +373,8 @@ fn post_where<L: Ledger>(
     requires serials { HasSerials setting.now.facts (2 ^ 63 - 8) }
     ensures { IfOk result (λ answer. answer ≡ post_where setting.now form.now finding.now known.now named asked) }
 {
-    let facts = setting.facts();
-    let moment = setting.moment;
     match check_form(
-        &facts,
-        moment,
+        setting,
         known,
         asked.as_slice(),
         named,
@@ -337,10 +382,20 @@ fn post_where<L: Ledger>(
         finding,
         steps,
     ) {
-        Ok(check) => answer_to_check(setting, known, asked, form, check, steps),
-        Err(refusal) => {
+        Ok(Ok(check)) => answer_to_check(setting, known, asked, form, check, steps),
+        Err(memory) => {
             discard(asked);
-            refused(setting.alloc, &facts, Some(known.tab), refusal, steps)
+            Err(memory)
+        }
+        Ok(Err(refusal)) => {
+            discard(asked);
+            refused(
+                setting.alloc,
+                &setting.facts(),
+                Some(known.tab),
+                refusal,
+                steps,
+            )
         }
     }
 }

@@ -1,4 +1,4 @@
-use Rattle.std.proofs.Common.{refl, ◌-◌, Some, None, arith}
+use Rattle.std.proofs.Common.{refl, Some, None, arith}
 use Rattle.fact_scans.proofs.Backwards.{found_back, missed_back}
 use Rattle.fact_scans.proofs.scan.last_held_kept.Goals as goal
 

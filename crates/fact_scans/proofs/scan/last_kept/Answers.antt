@@ -1,4 +1,4 @@
-use Rattle.std.proofs.Common.{sym, ◌∙◌, ◌-◌, arith}
+use Rattle.std.proofs.Common.{sym, ◌∙◌, arith}
 use Rattle.fact_scans.proofs.Backwards.{found_back, missed_back}
 use Rattle.fact_scans.proofs.scan.last_kept.Goals as goal
 
