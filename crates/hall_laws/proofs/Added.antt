@@ -242,8 +242,9 @@ module _ (P : Fact → Type 0) (allows : Allows P) where
       let first = password_facts user (last + 1) given.password in
       let second = otp_facts user (last + count given.password + 1) given.otp in
       let third = recovery_facts user (last + count given.password + count given.otp + 1) given.recovery in
-      All-append P first (second ++ third) (password_all user (last + 1) given.password)
-      (All-append P second third (otp_all user (last + count given.password + 1) given.otp) (recovery_all user (last + count given.password + count given.otp + 1) given.recovery))
+      All-append P (first ++ second) third
+      (All-append P first second (password_all user (last + 1) given.password) (otp_all user (last + count given.password + 1) given.otp))
+      (recovery_all user (last + count given.password + count given.otp + 1) given.recovery)
 
   user_all : (setting : Setting) (new : NewUser) (finding : Finding) → All P (due_user_add setting new finding).added
   unfolding due_user_add

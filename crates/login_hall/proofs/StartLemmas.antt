@@ -47,11 +47,16 @@ recovery_without user serial (Some digests) = refl
 
 secrets_without : (user : UserId) (last : ℕ) (given : GivenSecrets) → list_any is_mark (secret_facts user last given) ≡ false
 secrets_without user last given =
-    both_without _ _ (password_without user (last + 1) given.password)
-    (both_without _ _ (otp_without user (last + count given.password + 1) given.otp) (recovery_without user (last + count given.password + count given.otp + 1) given.recovery))
+    let first = password_facts user (last + 1) given.password in
+    let second = otp_facts user (last + count given.password + 1) given.otp in
+    let third = recovery_facts user (last + count given.password + count given.otp + 1) given.recovery in
+    both_without (first ++ second) third
+    (both_without first second (password_without user (last + 1) given.password) (otp_without user (last + count given.password + 1) given.otp))
+    (recovery_without user (last + count given.password + count given.otp + 1) given.recovery)
 
 user_without : (user : UserId) (given : RealmUser) → list_any is_mark (user_facts user given) ≡ false
-user_without user given = both_without _ _ (disabled_without user given.enabled) (secrets_without user user.0 (secrets_of given))
+user_without user given =
+    both_without (disabled_facts user given.enabled) (secret_facts user user.0 (secrets_of given)) (disabled_without user given.enabled) (secrets_without user user.0 (secrets_of given))
 
 new_user_without : (serial : ℕ) (given : RealmUser) (known : Bool) → list_any is_mark (if known then [] else user_facts (record { 0 = serial + 1 }) given) ≡ false
 new_user_without serial given true = refl
@@ -181,8 +186,10 @@ secrets_add old user last given h =
     let one = password_adds old user last given.password h in
     let two = otp_adds (old ++ first) user (last + count given.password) given.otp one.stored in
     let three = recovery_adds ((old ++ first) ++ second) user (last + count given.password + count given.otp) given.recovery two.stored in
-    let more = both_add (old ++ first) second third (last + count given.password + count given.otp) (last + count given.password + count given.otp + count given.recovery) two three in
-    both_add old first (second ++ third) (last + count given.password) (last + count given.password + count given.otp + count given.recovery) one more
+    let front = both_add old first second (last + count given.password) (last + count given.password + count given.otp) one two in
+    let e = append_assoc old first second in
+    both_add old (first ++ second) third (last + count given.password + count given.otp) (last + count given.password + count given.otp + count given.recovery) front
+    (subst (λ (fs : List Fact). Adds fs third (last + count given.password + count given.otp + count given.recovery)) e three)
 
 same_top : (old more : List Fact) (top other : ℕ) → top ≡ other → Adds old more top → Adds old more other
 same_top old more top other e adds = subst (λ (n : ℕ). Adds old more n) e adds

@@ -1,4 +1,6 @@
 ghost use Rattle.std.specs.Prelude.{◌≡◌, IfOk};
+ghost use Rattle.std.specs.Char.{is_ascii_alphanumeric};
+ghost use Rattle.std.specs.List.{list_all};
 ghost use Rattle.std.specs.Option.{option_copied};
 ghost use Rattle.script_lines.specs.Credentials.{exact_name, user_name, has_replacement, is_password, password_text, is_code, code_text, password_given, optional_password};
 
@@ -71,13 +73,17 @@ pub fn password_text(alloc: Global, value: Option<&[u8]>) -> Result<Option<Seque
     }
 }
 
+fn are_alphanumeric(value: &[u8]) -> bool
+    ensures { result ≡ list_all is_ascii_alphanumeric value.now }
+{
+    value.iter().all(|byte| byte.is_ascii_alphanumeric())
+}
+
 /// Whether a text is a code: 1 to 32 letters or digits of ASCII.
 fn is_code(value: &[u8]) -> bool
     ensures { result ≡ is_code value.now }
 {
-    !value.is_empty()
-        && value.len() <= MOST_CODE
-        && value.iter().all(|byte| byte.is_ascii_alphanumeric())
+    !value.is_empty() && value.len() <= MOST_CODE && are_alphanumeric(value)
 }
 
 /// A copy of a one-time code or a recovery code, where it is well-formed.
