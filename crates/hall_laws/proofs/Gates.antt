@@ -102,6 +102,7 @@ not_done facts refusals.NoSuchUser = refl
 not_done facts refusals.AccountDisabled = refl
 not_done facts refusals.RealmRefused = refl
 not_done facts refusals.NotYet = refl
+not_done facts refusals.NothingThere = refl
 not_done facts refusals.UnknownClient = refl
 not_done facts refusals.UnknownTab = refl
 not_done facts (refusals.Stale current) = refl

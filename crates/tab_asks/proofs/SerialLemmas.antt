@@ -1,5 +1,5 @@
 -- How far the asks of browsers lift the counters.
-use Rattle.std.proofs.Common.{◌≡◌, ℕ, ◌-◌, ◌^◌, ◌≤◌, true, false, List, [], ◌∷◌, ◌++◌, Option, Some, None, refl, arith}
+use Rattle.std.proofs.Common.{◌≡◌, ℕ, ◌-◌, ◌^◌, List, [], ◌∷◌, ◌++◌, Option, Some, None, refl, arith}
 use Rattle.std.specs.Prelude.{Result, Ok, Err}
 use Rattle.login_base.specs.declared.id.RootKey.{RootKey}
 use Rattle.login_base.specs.declared.id.TabKey.{TabKey}

@@ -1,5 +1,5 @@
 -- What a one-time code or a recovery code comes to.
-use Rattle.std.specs.Prelude.{◌≡◌, ℕ, ◌^◌, ◌<◌, Bool, List, Option, Some, None, if◌then◌else◌}
+use Rattle.std.specs.Prelude.{ℕ, ◌^◌, ◌<◌, Bool, List, Option, Some, None, if◌then◌else◌}
 use Rattle.std.specs.List.{list_any}
 use Rattle.login_base.specs.declared.id.UserId.{UserId}
 use Rattle.flow_tree.specs.declared.exec.Kind.TheVariants as kinds

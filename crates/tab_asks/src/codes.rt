@@ -83,7 +83,8 @@ fn recovery_check<L: Ledger>(
     value: &[u8],
     steps: &mut Steps<L>,
 ) -> Result<Check, Memory>
-    ensures { IfOk result (λ check. check ≡ recovery_check setting.now user (recovery_of user setting.now.facts) value.now) }
+    ensures { IfOk result (λ check. check ≡
+        recovery_check setting.now user (recovery_of user setting.now.facts) value.now) }
 {
     let facts = setting.facts();
     let Some(kept) = recovery_of(&facts, user, steps) else {
