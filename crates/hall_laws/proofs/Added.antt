@@ -80,6 +80,34 @@ pub record Allows (P : Fact → Type 0) : Type 0 where
   pub user_put : (user : UserId) (name : List ℕ) (roles : List (List ℕ)) → P (events.UserPut user name roles)
   pub secret_set : (user : UserId) (kind : SecretKind) (serial : ℕ) (secret : Secret) (by : Option TabKey) → P (events.SecretSet user kind serial secret by)
 
+-- a fact of these kinds
+abbrev pub is_plain : Fact → Bool
+is_plain (events.Rendered tab code action offer) = true
+is_plain (events.Seen session moment) = true
+is_plain (events.Session session root user moment idle most) = true
+is_plain (events.Completed tab user session moment) = true
+is_plain (events.Opened root tab version level life moment) = true
+is_plain (events.Enabled user) = true
+is_plain (events.Disabled user) = true
+is_plain (events.RealmPut version realm) = true
+is_plain (events.UserPut user name roles) = true
+is_plain (events.SecretSet user kind serial secret by) = true
+is_plain event = false
+
+pub plain_allows : (P : Fact → Type 0) → ((fact : Fact) → is_plain fact ≡ true → P fact) → Allows P
+plain_allows P each = record {
+  page = λ tab code. each (page_fact tab code) refl;
+  seen = λ session moment. each (events.Seen session moment) refl;
+  session = λ session root user moment idle most. each (events.Session session root user moment idle most) refl;
+  completed = λ tab user session moment. each (events.Completed tab user session moment) refl;
+  opened = λ root tab version level life moment. each (events.Opened root tab version level life moment) refl;
+  enabled = λ user. each (events.Enabled user) refl;
+  disabled = λ user. each (events.Disabled user) refl;
+  realm_put = λ version realm. each (events.RealmPut version realm) refl;
+  user_put = λ user name roles. each (events.UserPut user name roles) refl;
+  secret_set = λ user kind serial secret by. each (events.SecretSet user kind serial secret by) refl;
+}
+
 -- it holds of each failure that counts over these facts: that of a user whose account is open
 abbrev pub AllowsFailures : (Fact → Type 0) → Setting → Type 0
 AllowsFailures P setting = (user : UserId) → check_account setting.facts setting.moment (Some user) ≡ Ok tt → P (events.Failed user setting.moment)

@@ -26,7 +26,7 @@ use Rattle.tab_asks.specs.declared.passing.Passing.{Passing}
 use Rattle.tab_asks.specs.Visit.{check_account}
 use Rattle.login_hall.specs.Due.{due_ask}
 use Rattle.hall_laws.specs.Closing.{opens, OpenNothing}
-use Rattle.hall_laws.proofs.Added.{Allows, ask_all}
+use Rattle.hall_laws.proofs.Added.{is_plain, plain_allows, ask_all}
 use Rattle.hall_laws.proofs.EvidenceFacts.{evidence_all}
 use Rattle.hall_laws.proofs.Gates.{user_is, open_is}
 
@@ -40,33 +40,14 @@ Renewing user fact = renews user fact ≡ opens user fact
 abbrev Moving : UserId → Fact → Type 0
 Moving user fact = moves_standing user fact ≡ opens user fact
 
-renewing_allows : (user : UserId) → Allows (Renewing user)
-renewing_allows user = record {
-  page = λ tab code. refl;
-  seen = λ session moment. refl;
-  session = λ session root user moment idle most. refl;
-  completed = λ tab user session moment. refl;
-  opened = λ root tab version level life moment. refl;
-  enabled = λ user. refl;
-  disabled = λ user. refl;
-  realm_put = λ version realm. refl;
-  user_put = λ user name roles. refl;
-  secret_set = λ user kind serial secret by. refl;
-}
+renewing : (user : UserId) (fact : Fact) → is_plain fact ≡ true → Renewing user fact
+renewing user (events.Standing of value) h = absurd cc
+renewing user fact h = refl
 
-moving_allows : (user : UserId) → Allows (Moving user)
-moving_allows user = record {
-  page = λ tab code. refl;
-  seen = λ session moment. refl;
-  session = λ session root user moment idle most. refl;
-  completed = λ tab user session moment. refl;
-  opened = λ root tab version level life moment. refl;
-  enabled = λ user. refl;
-  disabled = λ user. refl;
-  realm_put = λ version realm. refl;
-  user_put = λ user name roles. refl;
-  secret_set = λ user kind serial secret by. refl;
-}
+moving : (user : UserId) (fact : Fact) → is_plain fact ≡ true → Moving user fact
+moving user (events.Failed of moment) h = absurd cc
+moving user (events.Standing of value) h = absurd cc
+moving user fact h = refl
 
 -- ---- where nothing opens the account
 
@@ -106,7 +87,7 @@ module _ (setting : Setting) (ask : Ask) (finding : Finding) (user : UserId) (un
   unrenewed : list_any (renews user) added ≡ false
   unrenewed =
       none (renews user) user added
-      (ask_all (Renewing user) (renewing_allows user) setting ask finding (λ failing opened. refl) (λ post accepted.
+      (ask_all (Renewing user) (plain_allows (Renewing user) (renewing user)) setting ask finding (λ failing opened. refl) (λ post accepted.
       let passing : Passing = record { tab = accepted.known.tab; user = accepted.user; credential = accepted.credential; moment = setting.moment } in
       evidence_all (Renewing user) (λ p. refl) (λ p execution kind. refl) (λ credential step. refl) (λ credential number. refl) passing post.form)) unopened
 
@@ -139,7 +120,7 @@ module _ (setting : Setting) (ask : Ask) (finding : Finding) (user : UserId) (un
     unmoved : list_any (moves_standing user) added ≡ false
     unmoved =
         none (moves_standing user) user added
-        (ask_all (Moving user) (moving_allows user) setting ask finding failing_other (λ post accepted.
+        (ask_all (Moving user) (plain_allows (Moving user) (moving user)) setting ask finding failing_other (λ post accepted.
         let passing : Passing = record { tab = accepted.known.tab; user = accepted.user; credential = accepted.credential; moment = setting.moment } in
         evidence_all (Moving user) (λ p. refl) (λ p execution kind. refl) (λ credential step. refl) (λ credential number. refl) passing post.form)) unopened
 

@@ -24,7 +24,7 @@ use Rattle.tab_asks.specs.Post.{is_code, due_post}
 use Rattle.login_hall.specs.Due.{due_ask}
 use Rattle.hall_laws.specs.AskedEvidence.{execution_of, IsRightEvidence, IsAskedEvidence, is_evidence, is_post}
 use Rattle.hall_laws.specs.Ready.{IsAccepted}
-use Rattle.hall_laws.proofs.Added.{Allows, post_all, other_all}
+use Rattle.hall_laws.proofs.Added.{is_plain, plain_allows, post_all, other_all}
 use Rattle.hall_laws.proofs.PostReadiness.{behind}
 use Rattle.hall_laws.proofs.Repeating.{tab_is}
 
@@ -89,23 +89,13 @@ accepted_right setting post finding accepted execution h =
       is_asked = b.fitting.form_asked;
     }
 
-asked_allows : (setting : Setting) (post : Post) → Allows (IsAskedEvidence setting post)
-asked_allows setting post = record {
-  page = λ tab code. tt;
-  seen = λ session moment. tt;
-  session = λ session root user moment idle most. tt;
-  completed = λ tab user session moment. tt;
-  opened = λ root tab version level life moment. tt;
-  enabled = λ user. tt;
-  disabled = λ user. tt;
-  realm_put = λ version realm. tt;
-  user_put = λ user name roles. tt;
-  secret_set = λ user kind serial secret by. tt;
-}
+asked : (setting : Setting) (post : Post) (fact : Fact) → is_plain fact ≡ true → IsAskedEvidence setting post fact
+asked setting post (events.Passed tab execution user kind credential moment) h = absurd cc
+asked setting post fact h = tt
 
 pub evidence_asked : (setting : Setting) (post : Post) (finding : Finding) → All (IsAskedEvidence setting post) (due_post setting post finding).added
 evidence_asked setting post finding =
-    post_all (IsAskedEvidence setting post) (asked_allows setting post) setting post finding (λ user opened. tt) (λ accepted.
+    post_all (IsAskedEvidence setting post) (plain_allows (IsAskedEvidence setting post) (asked setting post)) setting post finding (λ user opened. tt) (λ accepted.
     let passing : Passing = record { tab = accepted.known.tab; user = accepted.user; credential = accepted.credential; moment = setting.moment } in
     form_asked setting post passing post.form (accepted_right setting post finding accepted))
 
@@ -114,19 +104,9 @@ evidence_asked setting post finding =
 abbrev IsNone : Fact → Type 0
 IsNone fact = is_evidence fact ≡ false
 
-none_allows : Allows IsNone
-none_allows = record {
-  page = λ tab code. refl;
-  seen = λ session moment. refl;
-  session = λ session root user moment idle most. refl;
-  completed = λ tab user session moment. refl;
-  opened = λ root tab version level life moment. refl;
-  enabled = λ user. refl;
-  disabled = λ user. refl;
-  realm_put = λ version realm. refl;
-  user_put = λ user name roles. refl;
-  secret_set = λ user kind serial secret by. refl;
-}
+none : (fact : Fact) → is_plain fact ≡ true → IsNone fact
+none (events.Passed tab execution user kind credential moment) h = absurd cc
+none fact h = refl
 
 pub evidence_of_posts : (setting : Setting) (ask : Ask) (finding : Finding) → is_post ask ≡ false → All (λ fact. is_evidence fact ≡ false) (due_ask setting ask finding).added
-evidence_of_posts setting ask finding h = other_all IsNone none_allows setting ask finding h
+evidence_of_posts setting ask finding h = other_all IsNone (plain_allows IsNone none) setting ask finding h

@@ -41,7 +41,7 @@ use Rattle.login_hall.proofs.Pushes.{chronicle_of-push}
 use Rattle.hall_laws.specs.AskedEvidence.{is_post}
 use Rattle.hall_laws.specs.Ready.{asked_at}
 use Rattle.hall_laws.specs.SpentOnce.{spends_same, AreSpentOnce}
-use Rattle.hall_laws.proofs.Added.{Allows, tab_all, wrong_all, other_all}
+use Rattle.hall_laws.proofs.Added.{is_plain, plain_allows, tab_all, wrong_all, other_all}
 use Rattle.hall_laws.proofs.FreshCodes.{IsNew, IsNewSpent, IsFresh, check_fresh}
 use Rattle.hall_laws.proofs.PostReadiness.{is_fitting}
 
@@ -121,19 +121,10 @@ evidence_once facts passing forms.VerifyEmail once new = pushed_plain facts [] (
 
 -- ---- asks
 
-plain_allows : Allows IsPlain
-plain_allows = record {
-  page = λ tab code. refl;
-  seen = λ session moment. refl;
-  session = λ session root user moment idle most. refl;
-  completed = λ tab user session moment. refl;
-  opened = λ root tab version level life moment. refl;
-  enabled = λ user. refl;
-  disabled = λ user. refl;
-  realm_put = λ version realm. refl;
-  user_put = λ user name roles. refl;
-  secret_set = λ user kind serial secret by. refl;
-}
+spendless : (fact : Fact) → is_plain fact ≡ true → IsPlain fact
+spendless (events.SpentStep credential step) h = absurd cc
+spendless (events.SpentRecovery credential number) h = absurd cc
+spendless fact h = refl
 
 settled_once : {A : Type 0} (facts old : List Fact) (tab : Option TabKey) (answer : A → Answer) (result : Result A Refusal) → AreSpentOnce old
     → ((x : A) → result ≡ Ok x → AreSpentOnce (old ++ (answer x).added)) → AreSpentOnce (old ++ (settled facts tab answer result).added)
@@ -150,7 +141,7 @@ module _ (setting : Setting) (post : Post) (finding : Finding) (once : AreSpentO
       (check_fresh setting asked named who (password_for setting.facts (target_of named who post.form)) post.form finding)
 
   again_once : (tab : TabKey) (user : Option UserId) → AreSpentOnce (setting.facts ++ shown_again setting tab user)
-  again_once tab user = pushed_plain setting.facts (shown_again setting tab user) (wrong_all IsPlain plain_allows setting tab user (λ own is. refl)) once
+  again_once tab user = pushed_plain setting.facts (shown_again setting tab user) (wrong_all IsPlain (plain_allows IsPlain spendless) setting tab user (λ own is. refl)) once
 
   check_once : (known : KnownTab) (check : Check) → IsFresh setting.facts check → AreSpentOnce (setting.facts ++ (answer_to_check setting known (asked_at setting known) post.form check).added)
   unfolding answer_to_check answer_to_accepted
@@ -160,7 +151,7 @@ module _ (setting : Setting) (post : Post) (finding : Finding) (once : AreSpentO
       let more = setting.facts ++ evidence in
       let answer = tab_answer more setting (known_over known more) in
       subst AreSpentOnce (append_assoc setting.facts evidence answer.added)
-      (pushed_plain more answer.added (tab_all IsPlain plain_allows more setting (known_over known more)) (evidence_once setting.facts passing post.form once fresh))
+      (pushed_plain more answer.added (tab_all IsPlain (plain_allows IsPlain spendless) more setting (known_over known more)) (evidence_once setting.facts passing post.form once fresh))
   check_once known (checks.Wrong user) fresh = again_once known.tab user
   check_once known (checks.WrongCode user) fresh = again_once known.tab user
   check_once known (checks.SpentCode step) fresh = again_once known.tab None
@@ -176,7 +167,7 @@ module _ (setting : Setting) (post : Post) (finding : Finding) (once : AreSpentO
       check_once known check (check_fits known named check is))))
 
 other_once : (setting : Setting) (ask : Ask) (finding : Finding) → AreSpentOnce setting.facts → is_post ask ≡ false → AreSpentOnce (setting.facts ++ (due_ask setting ask finding).added)
-other_once setting ask finding once h = pushed_plain setting.facts (due_ask setting ask finding).added (other_all IsPlain plain_allows setting ask finding h) once
+other_once setting ask finding once h = pushed_plain setting.facts (due_ask setting ask finding).added (other_all IsPlain (plain_allows IsPlain spendless) setting ask finding h) once
 
 pub ask_once : (setting : Setting) (ask : Ask) (finding : Finding) → AreSpentOnce setting.facts → AreSpentOnce (setting.facts ++ (due_ask setting ask finding).added)
 ask_once setting (asks.Post post) finding once = post_once setting post finding once

@@ -1,10 +1,11 @@
 -- Asks add no mark, and so keep the codes counted.
-use Rattle.std.proofs.Common.{List, [], ◌∷◌, ◌++◌, refl}
+use Rattle.std.proofs.Common.{◌≡◌, true, List, [], ◌∷◌, ◌++◌, refl}
 use Rattle.std.specs.List.{All}
 use Rattle.std.proofs.lemmas.List.Elements.{All-nil, All-cons}
 use Rattle.realm_data.specs.declared.realm_parts.RealmParts.{RealmParts}
 use Rattle.asks.specs.declared.ask.Ask.{Ask}
 use Rattle.facts.specs.declared.fact.Fact.{Fact}
+use Rattle.facts.specs.declared.fact.Fact.TheVariants as events
 use Rattle.asks.specs.declared.finding.Finding.{Finding}
 use Rattle.std.specs.Prelude.{Option}
 use Rattle.hall_answers.specs.Setting.{Setting}
@@ -13,28 +14,18 @@ use Rattle.login_hall.specs.Due.{due_ask}
 use Rattle.login_hall.specs.Start.{IsStart}
 use Rattle.login_hall.proofs.StartLemmas.{no_mark}
 use Rattle.hall_laws.specs.Repeats.{HasCodesCounted}
-use Rattle.hall_laws.proofs.Added.{Allows, ask_all}
+use Rattle.hall_laws.proofs.Added.{is_plain, plain_allows, ask_all}
 use Rattle.hall_laws.proofs.EvidenceFacts.{evidence_all}
 use Rattle.hall_laws.proofs.CodeSerials.{IsUnmarked, codes_kept, all_unmarked}
 
-unmarked_allows : Allows IsUnmarked
-unmarked_allows = record {
-  page = λ tab code. refl;
-  seen = λ session moment. refl;
-  session = λ session root user moment idle most. refl;
-  completed = λ tab user session moment. refl;
-  opened = λ root tab version level life moment. refl;
-  enabled = λ user. refl;
-  disabled = λ user. refl;
-  realm_put = λ version realm. refl;
-  user_put = λ user name roles. refl;
-  secret_set = λ user kind serial secret by. refl;
-}
+unmarked : (fact : Fact) → is_plain fact ≡ true → IsUnmarked fact
+unmarked (events.Mark tabs stored used kept) h = absurd cc
+unmarked fact h = refl
 
 pub ask_counts : (setting : Setting) (ask : Ask) (finding : Finding) → HasCodesCounted setting.facts → HasCodesCounted (setting.facts ++ (due_ask setting ask finding).added)
 ask_counts setting ask finding counted =
     codes_kept setting.facts (due_ask setting ask finding).added
-    (ask_all IsUnmarked unmarked_allows setting ask finding (λ user opened. refl) (λ post accepted.
+    (ask_all IsUnmarked (plain_allows IsUnmarked unmarked) setting ask finding (λ user opened. refl) (λ post accepted.
     let passing : Passing = record { tab = accepted.known.tab; user = accepted.user; credential = accepted.credential; moment = setting.moment } in
     evidence_all IsUnmarked (λ p. refl) (λ p execution kind. refl) (λ credential step. refl) (λ credential number. refl) passing post.form)) counted
 

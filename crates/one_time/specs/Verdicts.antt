@@ -1,5 +1,5 @@
 -- What a one-time value fits.
-use Rattle.std.specs.Prelude.{ℕ, ◌+◌, ◌-◌, ◌/◌, ◌^◌, Bool, false, not, ◌&&◌, nat_lt, nat_eq, List, length, slice_get, Option, Some, None, if◌then◌else◌}
+use Rattle.std.specs.Prelude.{ℕ, ◌+◌, ◌-◌, ◌/◌, ◌^◌, Bool, true, false, not, ◌&&◌, nat_lt, nat_eq, List, length, slice_get, Option, Some, None, if◌then◌else◌}
 use Rattle.std.specs.List.{find, list_any, range_with_len}
 use Rattle.std.specs.Option.{option_map_or, option_to_list}
 use Rattle.std.specs.Str.{bytes_eq}
@@ -27,12 +27,21 @@ steps_near step window = range_with_len (step - window) (step + window + 1 - (st
 abbrev pub contains : List ℕ → ℕ → Bool
 contains steps step = list_any (λ other. nat_eq other step) steps
 
+-- the verdict over these steps, where some are spent
+abbrev pub verdict_over : (ℕ → Bool) → List ℕ → List ℕ → Verdict
+verdict_over fits spent steps = verdict_from (find (λ step. fits step && not (contains spent step)) steps) (find fits steps)
+
+-- the verdict once an earlier step is looked at too
+abbrev pub with_earlier : ℕ → Bool → Bool → Verdict → Verdict
+with_earlier step false spent later = later
+with_earlier step true false later = Fits step
+with_earlier step true true (Fits at) = Fits at
+with_earlier step true true (Spent at) = Spent step
+with_earlier step true true Wrong = Spent step
+
 -- the verdict on a text at a moment, where these steps are spent
 unfoldable pub totp_verdict : List ℕ → ℕ → ℕ → ℕ → List ℕ → List ℕ → Verdict
-totp_verdict key now window digits spent text =
-    let steps = steps_near (step_of now) window in
-    let fits : ℕ → Bool = is_code_of key digits text in
-    verdict_from (find (λ step. fits step && not (contains spent step)) steps) (find fits steps)
+totp_verdict key now window digits spent text = verdict_over (is_code_of key digits text) spent (steps_near (step_of now) window)
 
 -- ---- recovery codes, whose digests are numbered from 1
 

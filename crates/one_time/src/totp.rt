@@ -1,11 +1,11 @@
 //! One-time codes of the time.
 
-ghost use Rattle.std.specs.Prelude.{◌≡◌, ◌-◌, ◌≤◌, ◌&&◌, not};
-ghost use Rattle.std.specs.List.{find, range_with_len};
+ghost use Rattle.std.specs.Prelude.{◌≡◌, ◌-◌, ◌≤◌};
+ghost use Rattle.std.specs.List.{range_with_len};
 ghost use Rattle.one_time.specs.Hotp.{truncated, hotp, decimal_text, is_code_of};
-ghost use Rattle.one_time.specs.Verdicts.{contains, totp_verdict};
+ghost use Rattle.one_time.specs.Verdicts.{with_earlier, verdict_over, totp_verdict};
 
-use crate::verdict::{Verdict, verdict_from};
+use crate::verdict::Verdict;
 use mac_kit::hmac_sha1;
 
 /// A step's length in milliseconds (X of RFC 6238).
@@ -54,31 +54,40 @@ fn is_code_of(key: &[u8], digits: u32, code: &[u8], step: u64) -> bool
     code == &text[8 - digits as usize..]
 }
 
-/// The least step from `first` on and before `end` whose code the text is.
-fn least_fitting(key: &[u8], digits: u32, code: &[u8], first: u64, end: u64) -> Option<u64>
-    requires low { 6 ≤ digits }
-    requires high { digits ≤ 8 }
-    ensures value { result ≡ find (is_code_of key.now digits code.now) (range_with_len first (end - first)) }
+/// The verdict once an earlier step is looked at too, whose code the text is or isn't.
+fn with_earlier(step: u64, fits: bool, spent: bool, later: Verdict) -> Verdict
+    ensures verdict { result ≡ with_earlier step fits spent later }
 {
-    (first..end).find(|step| is_code_of(key, digits, code, *step))
+    match (fits, spent, later) {
+        (false, _, later) => later,
+        (true, false, _) => Verdict::Fits(step),
+        (true, true, Verdict::Fits(at)) => Verdict::Fits(at),
+        (true, true, _) => Verdict::Spent(step),
+    }
 }
 
-/// The least such step that isn't spent.
-fn least_unspent(
+/// The verdict over the steps from `first` on and before `end`. The code of each is made once.
+fn verdict_over(
     key: &[u8],
     digits: u32,
     code: &[u8],
     first: u64,
     end: u64,
     spent: &[u64],
-) -> Option<u64>
+) -> Verdict
     requires low { 6 ≤ digits }
     requires high { digits ≤ 8 }
-    ensures value { result ≡ find
-        (λ step. is_code_of key.now digits code.now step && not (contains spent.now step))
-        (range_with_len first (end - first)) }
+    requires order { first ≤ end }
+    ensures verdict { result ≡ verdict_over (is_code_of key.now digits code.now) spent.now (range_with_len first (end - first)) }
 {
-    (first..end).find(|step| is_code_of(key, digits, code, *step) && !spent.contains(step))
+    let mut verdict = Verdict::Wrong;
+    let mut step = end;
+    while step > first {
+        step -= 1;
+        let fits = is_code_of(key, digits, code, step);
+        verdict = with_earlier(step, fits, spent.contains(&step), verdict);
+    }
+    verdict
 }
 
 /// Checks a typed code at a moment in milliseconds: it fits the steps at most `window` before or
@@ -100,8 +109,5 @@ pub fn check_totp(
     let step = now / STEP;
     let first = step.saturating_sub(u64::from(window));
     let end = step + u64::from(window) + 1;
-    verdict_from(
-        least_unspent(key, digits, code, first, end, spent),
-        least_fitting(key, digits, code, first, end),
-    )
+    verdict_over(key, digits, code, first, end, spent)
 }
