@@ -1,0 +1,12 @@
+pub mod Access
+pub mod Admin
+pub mod Asks
+pub mod Browsers
+pub mod Credentials
+pub mod Keys
+pub mod Lists
+pub mod Numbers
+pub mod Pairs
+pub mod Places
+pub mod Posts
+pub mod Words
