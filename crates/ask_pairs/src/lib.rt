@@ -28,6 +28,8 @@ mod pairs;
 mod place;
 mod post;
 mod post_target;
+#[cfg(test)]
+mod tests;
 mod words;
 
 pub use admin::admin_of;
