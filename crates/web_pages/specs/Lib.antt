@@ -1,0 +1,4 @@
+pub mod Forms
+pub mod Heads
+pub mod Pages
+pub mod Statuses
