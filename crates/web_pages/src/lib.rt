@@ -13,6 +13,8 @@ mod forms;
 mod head;
 mod page;
 mod status;
+#[cfg(test)]
+mod tests;
 mod text;
 
 pub use fault::{RouteMethod, WebFault};
