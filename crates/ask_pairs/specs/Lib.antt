@@ -5,7 +5,6 @@ pub mod Browsers
 pub mod Credentials
 pub mod Keys
 pub mod Lists
-pub mod Numbers
 pub mod Pairs
 pub mod Places
 pub mod Posts

@@ -7,7 +7,7 @@ use Rattle.asks.specs.declared.admin.TokenAction.TheVariants as tokens
 use Rattle.asks.specs.Ranges.{is_life}
 use Rattle.realm_fields.specs.Words.{action_of, name_of, otp_of}
 use Rattle.ask_pairs.specs.Lists.{joined}
-use Rattle.ask_pairs.specs.Numbers.{number}
+use Rattle.decimal_text.specs.Numbers.{number}
 
 -- the roles of a list, which may be empty
 abbrev pub roles_in : List ℕ → Option (List (List ℕ))

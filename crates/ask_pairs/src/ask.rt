@@ -12,21 +12,24 @@ use asks::Ask;
 use login_base::Memory;
 use std::alloc::Global;
 
-/// The ask of a verb and its form-urlencoded pairs (URL Standard, section 5.1), or `Ask::Bad` at the
-/// first place that is missing, doubled or outside its grammar. `local` is true for scripts and the
-/// command line: an administrator's ask then needs no key. Else it brings one in the pair `key`, and
-/// can't put a realm.
+/// The ask of a verb and its pairs, or `Ask::Bad` at the first place that is missing, doubled or
+/// outside its grammar. `local` is true for scripts and the command line: an administrator's ask then
+/// needs no key. Else it brings one in the pair `key`, and can't put a realm.
+pub fn ask_of(alloc: Global, verb: &[u8], pairs: &[Pair], local: bool) -> Result<Ask, Memory>
+    ensures ask { IfOk result (λ ask. ask ≡ ask_of_pairs verb.now pairs.now local) }
+{
+    match browser_verb(verb) {
+        Some(known) => browser_ask(alloc, known, root_given(pairs), pairs),
+        None => admin_ask(alloc, local, verb, pairs),
+    }
+}
+
+/// The same of form-urlencoded pairs (URL Standard, section 5.1).
 pub fn ask_of_pairs(alloc: Global, verb: &[u8], pairs: &[u8], local: bool) -> Result<Ask, Memory>
     ensures ask { IfOk result (λ ask. ask ≡ ask_of_pairs verb.now (pairs_of pairs.now) local) }
 {
     let pairs = pairs_of(alloc, pairs)?;
-    match browser_verb(verb) {
-        Some(known) => {
-            let root = root_given(pairs.as_slice());
-            browser_ask(alloc, known, root, pairs.as_slice())
-        }
-        None => admin_ask(alloc, local, verb, pairs.as_slice()),
-    }
+    ask_of(alloc, verb, pairs.as_slice(), local)
 }
 
 /// The ask of an administrator with a key, whose verb is the pair `verb`.

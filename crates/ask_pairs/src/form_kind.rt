@@ -4,8 +4,8 @@ ghost use Rattle.ask_pairs.specs.Posts.{execution_form, action_kind, named_actio
 
 use crate::pairs::{Pair, has, value_of};
 use crate::place::Place;
-use crate::words::action_of;
 use realm_data::Action;
+use realm_fields::action_of;
 
 /// Which form a post carries.
 #[derive(Clone, Copy, Debug, PartialEq, Eq)]

@@ -4,7 +4,7 @@
 //! answered.
 //!
 //! - `pairs`: form-urlencoded pairs; `place`: where an ask is malformed
-//! - `numbers`, `credentials`, `keys`, `lists`, `words`: the grammars of values
+//! - `credentials`, `keys`, `lists`, `words`: the grammars of values
 //! - `access`: the key of an administrator
 //! - `form_kind`, `post_target`, `post`: the forms of a post
 //! - `browser_verb`, `browsers`: the verbs of a browser
@@ -23,7 +23,6 @@ mod credentials;
 mod form_kind;
 mod keys;
 mod lists;
-mod numbers;
 mod pairs;
 mod place;
 mod post;
@@ -33,10 +32,9 @@ mod tests;
 mod words;
 
 pub use admin::admin_of;
-pub use ask::{ask_of_pairs, keyed_ask};
+pub use ask::{ask_of, ask_of_pairs, keyed_ask};
 pub use browser_verb::BrowserVerb;
 pub use browsers::browser_ask;
 pub use keys::root_of;
-pub use numbers::number;
-pub use pairs::{Pair, pairs_of};
+pub use pairs::{Pair, pairs_of, value_of};
 pub use place::Place;

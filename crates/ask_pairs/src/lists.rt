@@ -2,9 +2,9 @@ ghost use Rattle.std.specs.Prelude.{◌≡◌, IfOk, map};
 ghost use Rattle.ask_pairs.specs.Lists.{parts, joined};
 ghost use Rattle.realm_fields.specs.Words.{action_of, name_of};
 
-use crate::words::action_of;
 use login_base::{Memory, Name, Sequence, read_name};
 use realm_data::Action;
+use realm_fields::action_of;
 use std::alloc::Global;
 
 /// What can stand in a list.

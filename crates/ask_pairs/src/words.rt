@@ -1,35 +1,14 @@
 ghost use Rattle.std.specs.Prelude.{◌≡◌, IfOk};
 ghost use Rattle.std.specs.Option.{option_copied};
-ghost use Rattle.realm_fields.specs.Words.{action_of, otp_of};
 ghost use Rattle.ask_pairs.specs.Words.{roles_from, actions_from, action_from, token_action_of, token_action_from, secret_from, life_of, life_from};
 
 use crate::lists::joined;
-use crate::numbers::number;
 use asks::{Life, TokenAction};
+use decimal_text::number;
 use login_base::{Memory, Name, Sequence};
-use one_time::{Base32Fault, base32_read};
 use realm_data::{Action, OtpSecret};
+use realm_fields::{action_of, otp_of};
 use std::alloc::Global;
-
-/// The action of a word.
-#[tactic(auto, unfolding(realm_fields::specs::Words::action_of))]
-pub fn action_of(word: &[u8]) -> Option<Action>
-    ensures action { result ≡ action_of word.now }
-{
-    if word == b"terms".as_slice() {
-        Some(Action::Terms)
-    } else if word == b"verify_email".as_slice() {
-        Some(Action::VerifyEmail)
-    } else if word == b"update_password".as_slice() {
-        Some(Action::UpdatePassword)
-    } else if word == b"configure_otp".as_slice() {
-        Some(Action::ConfigureOtp)
-    } else if word == b"recovery_codes".as_slice() {
-        Some(Action::RecoveryCodes)
-    } else {
-        None
-    }
-}
 
 /// The action that is given.
 pub fn action_from(value: Option<&[u8]>) -> Option<Action>
@@ -84,23 +63,12 @@ pub fn actions_from(alloc: Global, value: Option<&[u8]>) -> Result<Option<Sequen
     }
 }
 
-/// The secret of a base32 text, or none where it is no secret's.
-fn secret_of(alloc: Global, word: &[u8]) -> Result<Option<OtpSecret>, Memory>
-    ensures { IfOk result (λ secret. secret ≡ otp_of word.now) }
-{
-    match base32_read(alloc, word) {
-        Ok(key) => Ok(OtpSecret::new(Sequence::from_vec(key))),
-        Err(Base32Fault::Memory) => Err(Memory),
-        Err(Base32Fault::BadLetter { .. } | Base32Fault::BadLength) => Ok(None),
-    }
-}
-
 /// The secret of one-time codes that is given.
 pub fn secret_from(alloc: Global, value: Option<&[u8]>) -> Result<Option<OtpSecret>, Memory>
     ensures secret { IfOk result (λ secret. secret ≡ secret_from (option_copied value.entry)) }
 {
     match value {
-        Some(word) => secret_of(alloc, word),
+        Some(word) => otp_of(alloc, word),
         None => Ok(None),
     }
 }

@@ -1,5 +1,8 @@
+//! Numbers in texts: digits without a sign or a leading zero.
+#![tactic(auto)]
+
 ghost use Rattle.std.specs.Prelude.{◌≡◌, ◌≢◌, ◌<◌, ◌≤◌, ◌^◌, ℕ, Some, IfSome, IfNone, decimal};
-ghost use Rattle.ask_pairs.specs.Numbers.{starts_number, number};
+ghost use Rattle.decimal_text.specs.Numbers.{starts_number, number};
 
 use std::str;
 

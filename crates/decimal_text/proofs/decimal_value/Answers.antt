@@ -2,9 +2,9 @@ use Rattle.std.proofs.Common.{◌≡◌, true, sym, ap, ◌∙◌, rules}
 use Rattle.std.specs.Result.{result_ok}
 use Rattle.std.proofs.lemmas.Bool.{false≢true}
 use Rattle.std.proofs.lemmas.Fmt.{parse-decimal}
-use Rattle.ask_pairs.specs.Numbers.{starts_number}
-use Rattle.ask_pairs.proofs.NumberLemmas.{starts-decimal, parsed_text, not_utf8}
-use Rattle.ask_pairs.proofs.numbers.decimal_value.Goals as goal
+use Rattle.decimal_text.specs.Numbers.{starts_number}
+use Rattle.decimal_text.proofs.NumberLemmas.{starts-decimal, parsed_text, not_utf8}
+use Rattle.decimal_text.proofs.decimal_value.Goals as goal
 
 pub returns-then-not-starts_number-clause-only : goal.returns-then-not-starts_number-clause-only
 returns-then-not-starts_number-clause-only c = λ n lt e. absurd (false≢true (sym (search rules) ∙ ap starts_number e ∙ starts-decimal n lt))

@@ -1,6 +1,6 @@
 use Rattle.std.proofs.Common.{sym, arith, rules}
-use Rattle.ask_pairs.proofs.NumberLemmas.{number-decimal, number-none}
-use Rattle.ask_pairs.proofs.numbers.number.Goals as goal
+use Rattle.decimal_text.proofs.NumberLemmas.{number-decimal, number-none}
+use Rattle.decimal_text.proofs.number.Goals as goal
 
 pub returns-in-Some-clause-same : goal.returns-in-Some-clause-same
 returns-in-Some-clause-same c = sym (number-decimal c.args.last c.in-Some.n c.args.text.now (omega arith) (search rules) (search rules))
