@@ -32,4 +32,4 @@ pub use secrets::otp_of;
 pub use settings::lone_number_at;
 pub use stop::{Stop, missing};
 pub use values::{Reads, array, table};
-pub use words::{ExecKind, exec_kind_of};
+pub use words::{ExecKind, action_of, exec_kind_of};

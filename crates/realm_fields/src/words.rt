@@ -95,9 +95,10 @@ fn mode_of(word: &[u8]) -> Option<Mode>
     }
 }
 
+/// The action of a word.
 #[tactic(auto, unfolding(crate::specs::Words::action_of))]
-fn action_of(word: &[u8]) -> Option<Action>
-    ensures { result ≡ action_of word.now }
+pub fn action_of(word: &[u8]) -> Option<Action>
+    ensures value { result ≡ action_of word.now }
 {
     if word == b"terms".as_slice() {
         Some(Action::Terms)

@@ -1,9 +1,4 @@
-pub mod Asks
-pub mod Credentials
-pub mod Keys
+pub mod Built
+pub mod LinePlaces
 pub mod Lines
-pub mod Numbers
-pub mod Pairs
-pub mod Places
-pub mod Posts
 pub mod Steps

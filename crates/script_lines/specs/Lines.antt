@@ -6,8 +6,8 @@ use Rattle.login_base.specs.declared.draws.Draws.{Draws}
 use Rattle.asks.specs.declared.ask.Ask.TheVariants as asks
 use Rattle.script_lines.specs.declared.lines.ScriptLine.{ScriptLine}
 use Rattle.script_lines.specs.declared.step.Step.TheVariants as steps
-use Rattle.script_lines.specs.Numbers.{number}
-use Rattle.script_lines.specs.Pairs.{pairs_of}
+use Rattle.ask_pairs.specs.Pairs.{pairs_of}
+use Rattle.decimal_text.specs.Numbers.{number}
 use Rattle.script_lines.specs.Steps.{verb_step}
 
 -- ---- bytes and lines

@@ -2,10 +2,10 @@ ghost use Rattle.std.specs.Prelude.{◌≡◌, IfOk};
 ghost use Rattle.form_urlencoded.specs.Form.{split_once};
 ghost use Rattle.script_lines.specs.Lines.{script_line, parts_line, is_skipped, draws_from, bad_head};
 
-use crate::numbers::number;
-use crate::pairs::pairs_of;
-use crate::place::{Place, bad};
+use crate::line_place::{LinePlace, bad_line};
 use crate::step::{Step, verb_step};
+use ask_pairs::pairs_of;
+use decimal_text::number;
 use login_base::{Draws, Memory};
 use std::alloc::Global;
 
@@ -67,7 +67,7 @@ fn split_space(text: &[u8]) -> (&[u8], &[u8])
 fn bad_head(alloc: Global) -> Result<ScriptLine, Memory>
     ensures line { IfOk result (λ line. line ≡ bad_head) }
 {
-    let ask = bad(alloc, Place::Head)?;
+    let ask = bad_line(alloc, LinePlace::Head)?;
     Ok(ScriptLine {
         moment: 0,
         draws: draws_from(0),

@@ -1,15 +1,15 @@
 ghost use Rattle.std.specs.Prelude.{◌≡◌, IfOk, codes};
 ghost use Rattle.asks.specs.declared.ask.Ask.TheVariants as asks;
+ghost use Rattle.ask_pairs.specs.Pairs.{value_of};
 ghost use Rattle.script_lines.specs.declared.step.Step.TheVariants as steps;
-ghost use Rattle.script_lines.specs.Pairs.{value_of};
-ghost use Rattle.script_lines.specs.Places.{place_text};
-ghost use Rattle.script_lines.specs.Steps.{handle_given, named_ask, begin, settle, step_or_bad, verb_step};
+ghost use Rattle.script_lines.specs.LinePlaces.{line_place_text};
+ghost use Rattle.script_lines.specs.Steps.{handle_given, named_ask, begin, settle, verb_step};
 
-use crate::numbers::number;
-use crate::pairs::{Pair, value_of};
-use crate::place::{Place, bad};
-use crate::verbs::verb_ask;
+use crate::built::verb_ask;
+use crate::line_place::{LinePlace, bad_line};
+use ask_pairs::{Pair, value_of};
 use asks::Ask;
+use decimal_text::number;
 use login_base::Memory;
 use std::alloc::Global;
 
@@ -28,15 +28,15 @@ pub enum Step {
 }
 
 /// A handle is given.
-fn handle_given(pairs: &[Pair]) -> Result<u64, Place>
+fn handle_given(pairs: &[Pair]) -> Option<u64>
     ensures { result ≡ handle_given pairs.now }
 {
     match value_of(pairs, b"h") {
         Some(text) => match number(text, LAST_HANDLE) {
-            Some(handle) if handle >= 1 => Ok(handle),
-            _ => Err(Place::H),
+            Some(handle) if handle >= 1 => Some(handle),
+            _ => None,
         },
-        None => Err(Place::H),
+        None => None,
     }
 }
 
@@ -46,38 +46,38 @@ fn named_ask(alloc: Global, pairs: &[Pair]) -> Result<Ask, Memory>
 {
     match value_of(pairs, b"verb") {
         Some(verb) => verb_ask(alloc, verb, pairs),
-        None => bad(alloc, Place::Verb),
+        None => bad_line(alloc, LinePlace::Verb),
     }
 }
 
 /// A line that asks something malformed at this place.
-fn bad_step(alloc: Global, place: Place) -> Result<Step, Memory>
-    ensures step { IfOk result (λ step. step ≡ steps.Ask (asks.Bad (place_text place))) }
+fn bad_step(alloc: Global, place: LinePlace) -> Result<Step, Memory>
+    ensures step { IfOk result (λ step. step ≡ steps.Ask (asks.Bad (line_place_text place))) }
 {
-    let ask = bad(alloc, place)?;
+    let ask = bad_line(alloc, place)?;
     Ok(Step::Ask(ask))
 }
 
 /// What the pairs of a begin do.
 fn begin_step(alloc: Global, pairs: &[Pair]) -> Result<Step, Memory>
-    ensures step { IfOk result (λ step. step ≡ step_or_bad (begin pairs.now)) }
+    ensures step { IfOk result (λ step. step ≡ begin (handle_given pairs.now) pairs.now) }
 {
     match handle_given(pairs) {
-        Ok(handle) => {
+        Some(handle) => {
             let ask = named_ask(alloc, pairs)?;
             Ok(Step::Begin { handle, ask })
         }
-        Err(place) => bad_step(alloc, place),
+        None => bad_step(alloc, LinePlace::Handle),
     }
 }
 
 /// What the pairs of a settle do.
 fn settle_step(alloc: Global, pairs: &[Pair]) -> Result<Step, Memory>
-    ensures step { IfOk result (λ step. step ≡ step_or_bad (settle pairs.now)) }
+    ensures step { IfOk result (λ step. step ≡ settle (handle_given pairs.now)) }
 {
     match handle_given(pairs) {
-        Ok(handle) => Ok(Step::Settle { handle }),
-        Err(place) => bad_step(alloc, place),
+        Some(handle) => Ok(Step::Settle { handle }),
+        None => bad_step(alloc, LinePlace::Handle),
     }
 }
 
