@@ -19,3 +19,4 @@ mod text;
 
 pub use fault::{RouteMethod, WebFault};
 pub use page::{fault_page, page_of};
+pub use status::method_text;

@@ -58,6 +58,7 @@ pub fn fault_status(fault: WebFault) -> StatusCode
     }
 }
 
+/// The name of a method.
 pub fn method_text(method: RouteMethod) -> &'static [u8]
     ensures text { result.now ≡ method_text method }
 {

@@ -1,0 +1,3 @@
+mod CookieLemmas
+mod HeadLemmas
+mod SpaceLemmas
