@@ -1,0 +1,5 @@
+mod CookieLemmas
+mod FrontLemmas
+mod PairLemmas
+mod PostLemmas
+mod ReadingLemmas

@@ -1,0 +1,3 @@
+pub mod Cookies
+pub mod Filled
+pub mod Fronts

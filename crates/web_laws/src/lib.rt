@@ -1,0 +1,14 @@
+//! The laws of pages and requests. Each function does nothing: its contract is a law.
+//!
+//! - `cookies`: when a browser is given a root to keep
+//! - `forms`: forms that a page shows, and the posts that they stand for
+//! - `fronts`: requests that come bit by bit
+#![tactic(auto)]
+
+pub mod cookies;
+pub mod forms;
+pub mod fronts;
+
+pub use cookies::cookie_where_words_begin_with_root;
+pub use forms::{action_is_read_back, execution_is_read_back};
+pub use fronts::{bytes_have_one_reading, front_reads_the_same};
