@@ -1,0 +1,4 @@
+pub mod Misfits
+pub mod Order
+pub mod Repeats
+pub mod Rows
