@@ -78,7 +78,8 @@ fn verdict_over(
     requires low { 6 ≤ digits }
     requires high { digits ≤ 8 }
     requires order { first ≤ end }
-    ensures verdict { result ≡ verdict_over (is_code_of key.now digits code.now) spent.now (range_with_len first (end - first)) }
+    ensures verdict { result ≡
+        verdict_over (is_code_of key.now digits code.now) spent.now (range_with_len first (end - first)) }
 {
     let mut verdict = Verdict::Wrong;
     let mut step = end;
