@@ -1,5 +1,5 @@
 -- Evidence that is counted fact by fact is the evidence that counts.
-use Rattle.std.proofs.Common.{◌≡◌, ℕ, Bool, true, false, not, ◌&&◌, ◌||◌, List, [], ◌∷◌, Option, Some, None, refl, ap, sym, ◌∙◌}
+use Rattle.std.proofs.Common.{◌≡◌, ◌<◌, ◌≤◌, arith, ℕ, Bool, true, false, not, ◌&&◌, ◌||◌, List, [], ◌∷◌, Option, Some, None, refl, ap, sym, ◌∙◌}
 use Rattle.std.specs.Prelude.{fold, if◌then◌else◌}
 use Rattle.std.specs.List.{list_any}
 use Rattle.login_base.specs.declared.id.TabKey.{TabKey}
@@ -9,6 +9,8 @@ use Rattle.conditions.specs.declared.secret_kind.SecretKind.TheVariants as secre
 use Rattle.facts.specs.declared.fact.Fact.{Fact}
 use Rattle.facts.specs.declared.fact.Fact.TheVariants as events
 use Rattle.facts.specs.Evidence.{is_passed, rests_on, voids, has_evidence}
+use Rattle.facts.specs.Serials.{known_serial_after, last_known_serial}
+use Rattle.facts.proofs.TabLemmas.{lower, all_rise}
 use Rattle.fact_scans.specs.declared.evidence.Counting.{Counting}
 use Rattle.fact_scans.specs.Counting.{nothing, some_counts, with_kind, without_kind, is_own, is_foreign, counting_after}
 
@@ -123,3 +125,30 @@ module _ (tab : TabKey) (user : UserId) (id : List ℕ) where
 
   pub evidence_counted : (facts : List Fact) → some_counts (fold (counting_after tab user id) nothing facts) ≡ has_evidence tab user id facts
   evidence_counted facts = counted nothing facts
+
+  -- ---- facts that name no tab so new
+
+  none_left : (kind : SecretKind) → without_kind nothing kind ≡ nothing
+  none_left secrets.Password = refl
+  none_left secrets.Otp = refl
+  none_left secrets.Recovery = refl
+
+  still_nothing : (foreign : Bool) (kind : SecretKind) → (if foreign then without_kind nothing kind else nothing) ≡ nothing
+  still_nothing true kind = none_left kind
+  still_nothing false kind = refl
+
+  counts_nothing : (n : ℕ) (fact : Fact) → known_serial_after n fact < tab.0.serial → counting_after tab user id nothing fact ≡ nothing
+  counts_nothing n (events.Passed of execution by kind credential moment) less = rw (lower of.0 tab.0 (omega (arith, less))) refl
+  counts_nothing n (events.SecretSet of kind serial secret by) less = still_nothing (is_foreign tab user of by) kind
+  counts_nothing n fact less = refl
+
+  count_nothing : (n : ℕ) (facts : List Fact) → fold known_serial_after n facts < tab.0.serial → fold (counting_after tab user id) nothing facts ≡ nothing
+  count_nothing n [] less = refl
+  count_nothing n (fact ∷ facts) less =
+      let rest = all_rise (known_serial_after n fact) facts in
+      ap (λ (c : Counting). fold (counting_after tab user id) c facts) (counts_nothing n fact (omega (arith, less, rest)))
+      ∙ count_nothing (known_serial_after n fact) facts less
+
+  pub nothing_before : (facts : List Fact) → last_known_serial facts < tab.0.serial → fold (counting_after tab user id) nothing facts ≡ nothing
+  unfolding last_known_serial
+  nothing_before facts less = count_nothing 0 facts less

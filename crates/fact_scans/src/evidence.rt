@@ -2,8 +2,8 @@ ghost use Rattle.std.specs.Prelude.{◌≡◌};
 ghost use Rattle.facts.specs.Evidence.{is_by, has_evidence};
 ghost use Rattle.fact_scans.specs.Counting.{nothing, some_counts, with_kind, without_kind, is_own, is_foreign};
 
-use crate::scan::{FoldAbout, fold_by};
-use facts::{Fact, Facts, Fold, SecretKind, Subject};
+use crate::scan::{FoldAbout, fold_kept};
+use facts::{Fact, Facts, Fold, SecretKind, Subject, fold_in};
 use login_base::{Name, Steps, TabKey, UserId, same_id};
 use std::sync::ledger::Ledger;
 
@@ -141,8 +141,9 @@ impl<'a> FoldAbout for Evidence<'a> {
 }
 
 /// Whether an accepted post of the user for the execution counts in the tab: the user's secret on
-/// which it rests wasn't changed since by anything but this tab.
-#[tactic(auto, using(crate::proofs::EvidenceLemmas::evidence_counted))]
+/// which it rests wasn't changed since by anything but this tab. Facts before the first that names
+/// the tab aren't read.
+#[tactic(auto, using(crate::proofs::EvidenceLemmas::evidence_counted, crate::proofs::EvidenceLemmas::nothing_before, facts::proofs::PlacesLemmas::fold_append))]
 pub fn has_evidence<L: Ledger>(
     facts: &Facts<'_>,
     tab: TabKey,
@@ -152,11 +153,9 @@ pub fn has_evidence<L: Ledger>(
 ) -> bool
     ensures value { result ≡ has_evidence tab user id.now facts.now }
 {
-    fold_by(
-        facts,
-        &Evidence { tab, user, id },
-        Counting::nothing(),
-        steps,
-    )
-    .some_counts()
+    let of = Evidence { tab, user, id };
+    let (chronicle, more) = facts.parts();
+    let first = chronicle.first_known(tab.0.serial);
+    let counting = fold_kept(chronicle, &of, first, Counting::nothing(), steps);
+    fold_in(more, &of, counting).some_counts()
 }

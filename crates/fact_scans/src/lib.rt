@@ -9,6 +9,7 @@ mod passwords;
 mod realms;
 mod scan;
 mod serials;
+mod sessions;
 mod spent;
 mod tabs;
 #[cfg(test)]
@@ -20,8 +21,9 @@ pub use evidence::has_evidence;
 pub use moments::last_used_moment;
 pub use passwords::password_of;
 pub use realms::{current_realm, last_version, realm_of};
-pub use scan::{FoldAbout, fold_by};
+pub use scan::{FoldAbout, Pick, fold_by, fold_kept, last_by};
 pub use serials::{last_stored_serial, last_tab_serial};
+pub use sessions::{ended_by, seen_at, session_after};
 pub use spent::{codes_spent, spent_steps};
 pub use tabs::{tab_state, tab_state_with};
 pub use user_secrets::{otp_of, recovery_of};

@@ -1,4 +1,4 @@
-ghost use Rattle.std.specs.Prelude.{◌≡◌, ◌<◌, Bool, false, Option, Some, None, fold, length, option_map, slice_get};
+ghost use Rattle.std.specs.Prelude.{◌≡◌, ◌<◌, ◌≤◌, Bool, false, Option, Some, None, fold, length, take, option_map, slice_get};
 ghost use Rattle.std.specs.Option.{option_copied, option_or};
 ghost use Rattle.facts.specs.declared.fact.Fact.{Fact};
 ghost use Rattle.facts.specs.declared.subject.Subject.{Subject};
@@ -132,17 +132,20 @@ fn carry_at<F: FoldAbout, L: Ledger>(
     }
 }
 
-/// What is carried to the end of a chronicle.
-pub(crate) fn fold_kept<F: FoldAbout, L: Ledger>(
+/// What is carried to the end of a chronicle, where the facts before this place leave it as it is.
+pub fn fold_kept<F: FoldAbout, L: Ledger>(
     chronicle: &Chronicle,
     step: &F,
+    from: usize,
     start: F::Carried,
     steps: &mut Steps<L>,
 ) -> F::Carried
-    ensures { result ≡ fold (F.Fold.carry step.now) start chronicle.now.list }
+    requires within { from ≤ length chronicle.now.list }
+    requires before { fold (F.Fold.carry step.now) start (take from chronicle.now.list) ≡ start }
+    ensures value { result ≡ fold (F.Fold.carry step.now) start chronicle.now.list }
 {
     let mut carried = start;
-    for i in 0..chronicle.len() {
+    for i in from..chronicle.len() {
         carry_at(step, &mut carried, chronicle, i, steps);
     }
     carried
@@ -159,7 +162,7 @@ pub fn fold_by<F: FoldAbout, L: Ledger>(
     ensures value { result ≡ fold (F.Fold.carry step.now) start facts.now }
 {
     let (chronicle, more) = facts.parts();
-    fold_in(more, step, fold_kept(chronicle, step, start, steps))
+    fold_in(more, step, fold_kept(chronicle, step, 0, start, steps))
 }
 
 /// What the fact at a place holds, which is read only where it may hold something.

@@ -1,4 +1,5 @@
 pub mod InForce
+pub mod NoteLemmas
 pub mod PlacesLemmas
 pub mod SerialLemmas
 pub mod SubjectLemmas

@@ -1,7 +1,6 @@
 -- A fact that doesn't concern a tab leaves what is known of it.
-use Rattle.std.proofs.Common.{◌≡◌, ℕ, ◌<◌, false, List, Option, Some, None, ◌==◌, refl, ap, sym, ◌∙◌, ◌++◌, length, get_or, slice_get, map, option_map}
-use Rattle.std.proofs.lemmas.Option.{slice_get-map, slice_get-get_or, same_Some}
-use Rattle.std.proofs.lemmas.List.{map-append}
+use Rattle.std.proofs.Common.{◌≡◌, ℕ, false, List, Option, Some, None, ◌==◌, refl, ap, ◌∙◌, slice_get, option_map}
+use Rattle.std.proofs.lemmas.Option.{same_Some}
 use Rattle.login_base.specs.IdText.{same_id}
 use Rattle.login_base.specs.declared.id.Id.{Id}
 use Rattle.login_base.specs.declared.id.RootKey.{RootKey}
@@ -10,7 +9,6 @@ use Rattle.facts.specs.declared.fact.Fact.{Fact}
 use Rattle.facts.specs.declared.fact.Fact.TheVariants as events
 use Rattle.facts.specs.declared.subject.Subject.{Subject}
 use Rattle.facts.specs.declared.tabs.TabState.{TabState}
-use Rattle.facts.specs.Kept.{AreSubjects}
 use Rattle.facts.specs.Subjects.{subject_of, concerns}
 use Rattle.facts.specs.Tabs.{tab_after}
 
@@ -28,14 +26,6 @@ unconcerned root tab state (events.Opened of opened version level life moment) h
 unconcerned root tab state (events.Rendered of code action offer) h = rw (other of.0 tab.0 h) refl
 unconcerned root tab state (events.Named of user) h = rw (other of.0 tab.0 h) refl
 unconcerned root tab state fact h = refl
-
--- the subject of the fact at a place
-pub subject_at : (subjects : List Subject) (facts : List Fact) (i : ℕ) (d : Subject) → AreSubjects subjects facts → i < length subjects → option_map subject_of (slice_get facts i) ≡ Some (get_or subjects i d)
-subject_at subjects facts i d h within = sym (slice_get-map subject_of facts i) ∙ ap (λ s. slice_get s i) (sym h) ∙ slice_get-get_or subjects i d within
-
--- the subjects of joined lists
-pub subjects_joined : (subjects more : List Subject) (facts new : List Fact) → AreSubjects subjects facts → AreSubjects more new → AreSubjects (subjects ++ more) (facts ++ new)
-subjects_joined subjects more facts new h k = ap (λ s. s ++ more) h ∙ ap (λ s. map subject_of facts ++ s) k ∙ sym (map-append subject_of facts new)
 
 -- a fact of this subject that doesn't concern the tab leaves what is known of it
 passed_over : (root : RootKey) (tab : TabKey) (state : TabState) (o : Option Fact) (subject : Subject) → option_map subject_of o ≡ Some subject → concerns root tab subject ≡ false → option_map (tab_after root tab state) o ≡ Some state

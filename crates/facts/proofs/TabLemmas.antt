@@ -1,7 +1,7 @@
 -- What is known of a tab behind more facts.
-use Rattle.std.proofs.Common.{◌≡◌, ℕ, ◌<◌, ◌≤◌, true, false, List, [], ◌∷◌, ◌++◌, Some, None, refl, ap, sym, ◌∙◌, arith}
+use Rattle.std.proofs.Common.{◌≡◌, ℕ, ◌<◌, ◌≤◌, false, List, [], ◌∷◌, ◌++◌, Some, None, refl, ap, sym, ◌∙◌, arith}
 use Rattle.std.specs.Prelude.{fold}
-use Rattle.std.proofs.lemmas.Bool.{and_parts, ltb-true, ne_eqb}
+use Rattle.std.proofs.lemmas.Bool.{ne_eqb}
 use Rattle.login_base.specs.IdText.{same_id}
 use Rattle.login_base.specs.declared.id.Id.{Id}
 use Rattle.login_base.specs.declared.id.RootKey.{RootKey}
@@ -10,20 +10,20 @@ use Rattle.facts.specs.declared.fact.Fact.{Fact}
 use Rattle.facts.specs.declared.fact.Fact.TheVariants as facts
 use Rattle.facts.specs.declared.tabs.TabState.{TabState}
 use Rattle.facts.specs.Serials.{known_serial_after, last_known_serial}
-use Rattle.facts.specs.Tabs.{tab_after, tab_state, no_tab, are_new}
+use Rattle.facts.specs.Tabs.{tab_after, tab_state, no_tab}
 use Rattle.facts.proofs.PlacesLemmas.{fold_append}
 
 pub tab_state_more : (root : RootKey) (tab : TabKey) (state : TabState) (old more : List Fact) → state ≡ tab_state root tab old → fold (tab_after root tab) state more ≡ tab_state root tab (old ++ more)
 unfolding tab_state
 tab_state_more root tab state old more h = ap (λ (s : TabState). fold (tab_after root tab) s more) h ∙ sym (fold_append (tab_after root tab) no_tab old more)
 
--- ---- a tab that is newer than all that the facts name
+-- ---- a tab that is newer than all that some facts name
 
 -- an id with a lower serial is another one
-lower : (a b : Id) → a.serial < b.serial → same_id a b ≡ false
+pub lower : (a b : Id) → a.serial < b.serial → same_id a b ≡ false
 lower a b h = rw (ne_eqb a.serial b.serial (λ e. omega (arith, h, e))) refl
 
-rises : (n : ℕ) (fact : Fact) → n ≤ known_serial_after n fact
+pub rises : (n : ℕ) (fact : Fact) → n ≤ known_serial_after n fact
 rises n (facts.SecretSet user kind serial secret (Some tab)) = omega arith
 rises n (facts.SecretSet user kind serial secret None) = omega arith
 rises n (facts.Session session root user moment idle life) = omega arith
@@ -34,7 +34,7 @@ rises n (facts.Named tab user) = omega arith
 rises n (facts.Passed tab execution user kind credential moment) = omega arith
 rises n fact = omega arith
 
-all_rise : (n : ℕ) (fs : List Fact) → n ≤ fold known_serial_after n fs
+pub all_rise : (n : ℕ) (fs : List Fact) → n ≤ fold known_serial_after n fs
 all_rise n [] = omega arith
 all_rise n (fact ∷ fs) = let first = rises n fact in let rest = all_rise (known_serial_after n fact) fs in omega (arith, first, rest)
 
@@ -55,9 +55,7 @@ say_nothing root tab n (fact ∷ fs) r t =
     ap (λ (s : TabState). fold (tab_after root tab) s fs) (says_nothing root tab n fact (omega (arith, r, rest)) (omega (arith, t, rest)))
     ∙ say_nothing root tab (known_serial_after n fact) fs r t
 
-pub new_tab_more : (root : RootKey) (tab : TabKey) (old more : List Fact) → are_new root tab old ≡ true → fold (tab_after root tab) no_tab more ≡ tab_state root tab (old ++ more)
-unfolding tab_state last_known_serial
-new_tab_more root tab old more h =
-    let both = and_parts _ _ h in
-    let nothing = say_nothing root tab 0 old (ltb-true _ _ both.0) (ltb-true _ _ both.1) in
-    tab_state_more root tab no_tab old more (sym nothing)
+-- facts that name lower ones alone say nothing of this tab
+pub nothing_before : (root : RootKey) (tab : TabKey) (facts : List Fact) → last_known_serial facts < root.0.serial → last_known_serial facts < tab.0.serial → fold (tab_after root tab) no_tab facts ≡ no_tab
+unfolding last_known_serial
+nothing_before root tab facts r t = say_nothing root tab 0 facts r t

@@ -2,11 +2,14 @@ pub mod About
 pub mod Accounts
 pub mod Evidence
 pub mod Kept
+pub mod Levels
 pub mod Moments
 pub mod Places
 pub mod Realms
+pub mod Roots
 pub mod Secrets
 pub mod Serials
+pub mod Sessions
 pub mod Spent
 pub mod Subjects
 pub mod Tabs

@@ -1,6 +1,7 @@
 -- Of what a fact can say something.
 use Rattle.std.specs.Prelude.{ℕ, Bool, true, false, ◌&&◌, ◌==◌, Some, None}
 use Rattle.login_base.specs.declared.id.RootKey.{RootKey}
+use Rattle.login_base.specs.declared.id.SessionId.{SessionId}
 use Rattle.login_base.specs.declared.id.TabKey.{TabKey}
 use Rattle.login_base.specs.declared.id.UserId.{UserId}
 use Rattle.facts.specs.declared.fact.Fact.{Fact}
@@ -21,13 +22,13 @@ subject_of (events.Disabled user) = subjects.User user.0
 subject_of (events.Failed user moment) = subjects.User user.0
 subject_of (events.SpentStep credential step) = subjects.Secret credential
 subject_of (events.SpentRecovery credential number) = subjects.Secret credential
-subject_of (events.Session session (Some root) user moment idle most) = subjects.Root root.0.serial
-subject_of (events.Session session None user moment idle most) = subjects.Session
-subject_of (events.Seen session moment) = subjects.Session
-subject_of (events.Level session level moment) = subjects.Session
-subject_of (events.SessionEnd session) = subjects.Session
+subject_of (events.Session session (Some root) user moment idle most) = subjects.Root root.0.serial session.0.serial
+subject_of (events.Session session None user moment idle most) = subjects.Session session.0.serial
+subject_of (events.Seen session moment) = subjects.Session session.0.serial
+subject_of (events.Level session level moment) = subjects.Session session.0.serial
+subject_of (events.SessionEnd session) = subjects.Session session.0.serial
 subject_of (events.Completed tab user session moment) = subjects.Login tab.0.serial user.0
-subject_of (events.Opened root tab version level life moment) = subjects.Tab tab.0.serial
+subject_of (events.Opened root tab version level life moment) = subjects.Opening root.0.serial tab.0.serial
 subject_of (events.Rendered tab code action offer) = subjects.Tab tab.0.serial
 subject_of (events.Named tab user) = subjects.Tab tab.0.serial
 subject_of (events.Passed tab execution user kind credential moment) = subjects.Login tab.0.serial user.0
@@ -40,10 +41,40 @@ concerns root tab subjects.Realm = false
 concerns root tab (subjects.User user) = false
 concerns root tab (subjects.Secret serial) = false
 concerns root tab (subjects.Tab serial) = serial == tab.0.serial
+concerns root tab (subjects.Opening of serial) = serial == tab.0.serial
 concerns root tab (subjects.Login serial user) = serial == tab.0.serial
-concerns root tab (subjects.Root serial) = serial == root.0.serial
-concerns root tab subjects.Session = true
+concerns root tab (subjects.Root serial session) = serial == root.0.serial
+concerns root tab (subjects.Session session) = true
 concerns root tab subjects.Other = false
+
+-- it can be about the root: its tabs, or its session
+abbrev pub is_of_root : RootKey → Subject → Bool
+is_of_root root subjects.Realm = false
+is_of_root root (subjects.User user) = false
+is_of_root root (subjects.Secret serial) = false
+is_of_root root (subjects.Tab serial) = false
+is_of_root root (subjects.Opening serial tab) = serial == root.0.serial
+is_of_root root (subjects.Login serial user) = false
+is_of_root root (subjects.Root serial session) = serial == root.0.serial
+is_of_root root (subjects.Session session) = true
+is_of_root root subjects.Other = false
+
+-- it is about the opening of some tab
+abbrev pub is_opening : Subject → Bool
+is_opening (subjects.Opening root tab) = true
+is_opening subject = false
+
+-- it is about some session
+abbrev pub is_session : Subject → Bool
+is_session (subjects.Root root session) = true
+is_session (subjects.Session session) = true
+is_session subject = false
+
+-- it is about this session
+abbrev pub is_of_session : SessionId → Subject → Bool
+is_of_session session (subjects.Root root serial) = serial == session.0.serial
+is_of_session session (subjects.Session serial) = serial == session.0.serial
+is_of_session session subject = false
 
 -- it is about the realm
 abbrev pub is_realm : Subject → Bool

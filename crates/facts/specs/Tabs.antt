@@ -1,5 +1,5 @@
 -- What the facts say of a tab: fact by fact.
-use Rattle.std.specs.Prelude.{ℕ, ◌-◌, ◌*◌, Bool, true, false, ◌&&◌, nat_lt, List, Option, Some, None, fold, if◌then◌else◌}
+use Rattle.std.specs.Prelude.{ℕ, ◌+◌, ◌-◌, ◌*◌, Bool, true, false, ◌&&◌, nat_lt, List, Option, Some, None, fold, if◌then◌else◌}
 use Rattle.login_base.specs.IdText.{same_id}
 use Rattle.login_base.specs.declared.id.Code.{Code}
 use Rattle.login_base.specs.declared.id.RootKey.{RootKey}
@@ -11,7 +11,6 @@ use Rattle.facts.specs.declared.fact.Fact.TheVariants as events
 use Rattle.facts.specs.declared.tabs.Opening.{Opening}
 use Rattle.facts.specs.declared.tabs.RootSession.{RootSession}
 use Rattle.facts.specs.declared.tabs.TabState.{TabState}
-use Rattle.facts.specs.Serials.{last_known_serial}
 
 -- ---- the session of a root
 
@@ -46,6 +45,18 @@ live_among now None = None
 live_among now (Some own) = if is_live now own then Some own else None
 
 -- ---- the tab
+
+-- the moment is before the end of so many lives after the opening, each in milliseconds
+abbrev pub is_within_lives : ℕ → ℕ → Opening → Bool
+is_within_lives lives now opening = nat_lt now (opening.moment + lives * opening.life)
+
+-- the tab lives for one life; then it is expired
+abbrev pub tab_is_live : ℕ → Opening → Bool
+tab_is_live now opening = is_within_lives 1 now opening
+
+-- it is known for two; then it is forgotten
+abbrev pub tab_is_known : ℕ → Opening → Bool
+tab_is_known now opening = is_within_lives 2 now opening
 
 -- with what it was opened in this root
 abbrev pub opening_after : RootKey → TabKey → Option Opening → Fact → Option Opening
@@ -87,10 +98,6 @@ no_tab = record { opening = None; code = None; named = None; completed = false; 
 -- what is known of a tab of a root
 unfoldable pub tab_state : RootKey → TabKey → List Fact → TabState
 tab_state root tab facts = fold (tab_after root tab) no_tab facts
-
--- both are newer than every root and tab that the facts name
-abbrev pub are_new : RootKey → TabKey → List Fact → Bool
-are_new root tab facts = nat_lt (last_known_serial facts) root.0.serial && nat_lt (last_known_serial facts) tab.0.serial
 
 -- the session that the root has now
 abbrev pub live_session : ℕ → TabState → Option RootSession

@@ -1,5 +1,6 @@
-ghost use Rattle.std.specs.Prelude.{◌≡◌, ◌+◌, ◌<◌, ◌≤◌, vec_len, vec_capacity, [], ◌++◌, length, map, option_map, Some, None, IfOk, OnOk, OnErr, slice_get};
+ghost use Rattle.std.specs.Prelude.{◌≡◌, ◌+◌, ◌<◌, ◌≤◌, vec_len, vec_capacity, [], ◌++◌, length, take, option_map, Some, None, IfOk, OnOk, OnErr, slice_get};
 ghost use Rattle.std.specs.Option.{option_copied, option_or};
+ghost use Rattle.facts.specs.Kept.{notes_of};
 ghost use Rattle.facts.specs.Places.{last_of};
 ghost use Rattle.facts.specs.Realms.{current_realm, last_version, realm_put};
 ghost use Rattle.facts.specs.Serials.{last_tab_serial, last_stored_serial, last_known_serial};
@@ -7,8 +8,9 @@ ghost use Rattle.facts.specs.Subjects.{subject_of};
 
 use crate::counters::{KnownSerial, StoredSerial, TabSerial, Version};
 use crate::fact::Fact;
-use crate::fold::fold_in;
+use crate::fold::{Fold, fold_in};
 use crate::hold::last_held_in;
+use crate::note::Note;
 use crate::realm_put::RealmPut;
 use crate::subject::Subject;
 use login_base::{Duplicate, Memory, Steps};
@@ -23,9 +25,9 @@ pub struct Chronicle {
     alloc: Global,
     list: Vec<Fact>,
     waiting: Vec<Fact>,
-    /// The subjects of the facts of both lists.
-    subjects: Vec<Subject>,
-    waiting_subjects: Vec<Subject>,
+    /// What is noted of the facts of both lists.
+    notes: Vec<Note>,
+    waiting_notes: Vec<Note>,
     /// The last used serials of both counters.
     tab_serial: u64,
     stored_serial: u64,
@@ -43,7 +45,7 @@ impl Model for Chronicle {
     ghost use Rattle.std.specs.Coded.{codes};
     ghost use Rattle.flow_tree.specs.contracts.exec.Exec as exec;
     ghost use Rattle.std.specs.Prelude.{◌≡◌};
-    ghost use Rattle.facts.specs.Kept.{Kept, IsCounted, AreSubjects};
+    ghost use Rattle.facts.specs.Kept.{Kept, IsCounted, AreNotes, AreNotesBehind};
     ghost use Rattle.facts.specs.Places.{last_of};
     ghost use Rattle.facts.specs.Realms.{realm_put};
 
@@ -54,8 +56,8 @@ impl Model for Chronicle {
     ghost view = { λ c. record { list = c.list.items; waiting = c.waiting.items } };
 
     ghost invariant = { λ c. (vec_len c.list + vec_len c.waiting ≤ vec_capacity c.list) ×
-        (vec_len c.subjects + vec_len c.waiting_subjects ≤ vec_capacity c.subjects) ×
-        AreSubjects c.subjects.items c.list.items × AreSubjects c.waiting_subjects.items c.waiting.items ×
+        (vec_len c.notes + vec_len c.waiting_notes ≤ vec_capacity c.notes) ×
+        AreNotes c.notes.items c.list.items × AreNotesBehind c.waiting_notes.items c.list.items c.waiting.items ×
         IsCounted c.list.items c.tab_serial c.stored_serial c.known_serial c.version c.realm ×
         (c.waiting_realm ≡ last_of realm_put c.waiting.items) };
 }
@@ -71,15 +73,21 @@ fn copies(alloc: Global, facts: &[Fact]) -> Result<Vec<Fact>, Memory>
     Ok(copies)
 }
 
-/// The subjects of the facts.
-fn subjects(alloc: Global, facts: &[Fact]) -> Result<Vec<Subject>, Memory>
-    ensures { IfOk result (λ subjects. subjects.items ≡ map subject_of facts.now) }
+/// What is noted of the facts, where those before them name roots and tabs up to this serial.
+fn notes(alloc: Global, known: u64, facts: &[Fact]) -> Result<Vec<Note>, Memory>
+    ensures notes { IfOk result (λ notes. notes.items ≡ notes_of known facts.now) }
+    ensures len { IfOk result (λ notes. vec_len notes ≡ length facts.now) }
 {
-    let mut subjects = Vec::new(alloc);
+    let mut last = known;
+    let mut notes = Vec::new(alloc);
     for fact in facts {
-        subjects.push(Subject::of(fact))?;
+        KnownSerial.after(&mut last, fact);
+        notes.push(Note {
+            subject: Subject::of(fact),
+            known: last,
+        })?;
     }
-    Ok(subjects)
+    Ok(notes)
 }
 
 /// A copy of the realm that these facts put last.
@@ -116,7 +124,7 @@ fn join<T>(items: &mut Vec<T>, more: &mut Vec<T>)
 
 impl Chronicle {
     /// An empty list, which takes no memory.
-    #[tactic(auto, unfolding(crate::specs::Serials::last_tab_serial, crate::specs::Serials::last_stored_serial, crate::specs::Serials::last_known_serial, crate::specs::Realms::last_version, crate::specs::Realms::current_realm))]
+    #[tactic(auto, unfolding(crate::specs::Serials::last_tab_serial, crate::specs::Serials::last_stored_serial, crate::specs::Serials::last_known_serial, crate::specs::Realms::last_version, crate::specs::Realms::current_realm, crate::specs::Kept::notes_of))]
     pub fn make(alloc: Global) -> Chronicle
         ensures list { result.list ≡ [] }
         ensures waiting { result.waiting ≡ [] }
@@ -125,8 +133,8 @@ impl Chronicle {
             alloc,
             list: Vec::new(alloc),
             waiting: Vec::new(alloc),
-            subjects: Vec::new(alloc),
-            waiting_subjects: Vec::new(alloc),
+            notes: Vec::new(alloc),
+            waiting_notes: Vec::new(alloc),
             tab_serial: 0,
             stored_serial: 0,
             known_serial: 0,
@@ -153,13 +161,41 @@ impl Chronicle {
         &self.list[index]
     }
 
-    /// Of which tabs the fact at a place can say something. It isn't read for that.
-    #[tactic(auto, using(crate::proofs::SubjectLemmas::subject_at))]
+    /// Of what the fact at a place can say something. It isn't read for that.
+    #[tactic(auto, using(crate::proofs::NoteLemmas::subject_at, crate::proofs::NoteLemmas::within_notes))]
     pub fn subject(&self, index: usize) -> Subject
         requires within { index < length self.now.list }
         ensures value { option_map subject_of (slice_get self.now.list index) ≡ Some result }
     {
-        self.subjects[index]
+        self.notes[index].subject
+    }
+
+    /// The greatest serial of a root or a tab that the facts up to the one at a place name.
+    #[tactic(auto, using(crate::proofs::NoteLemmas::known_at, crate::proofs::NoteLemmas::within_notes))]
+    fn known_at(&self, index: usize) -> u64
+        requires within { index < length self.now.list }
+        ensures value { result ≡ last_known_serial (take (index + 1) self.now.list) }
+    {
+        self.notes[index].known
+    }
+
+    /// A place before which no fact names a root or a tab of this serial or a greater one. No fact is
+    /// read for it.
+    pub fn first_known(&self, serial: u64) -> usize
+        ensures within { result ≤ length self.now.list }
+        ensures before { 0 < result → last_known_serial (take result self.now.list) < serial }
+    {
+        let mut low = 0;
+        let mut high = self.len();
+        while low < high {
+            let middle = low + (high - low) / 2;
+            if self.known_at(middle) < serial {
+                low = middle + 1;
+            } else {
+                high = middle;
+            }
+        }
+        low
     }
 
     /// The last used serial of the counter of roots, tabs and codes.
@@ -174,13 +210,6 @@ impl Chronicle {
         ensures value { result ≡ last_stored_serial self.now.list }
     {
         self.stored_serial
-    }
-
-    /// The greatest serial of a root or a tab that the facts name.
-    pub fn last_known_serial(&self) -> u64
-        ensures value { result ≡ last_known_serial self.now.list }
-    {
-        self.known_serial
     }
 
     /// The version of the last realm that was put, 0 where there is none.
@@ -198,26 +227,27 @@ impl Chronicle {
     }
 
     /// Copies the facts to those that wait, in the place of what waited, and makes room for them.
+    #[tactic(auto, using(crate::proofs::NoteLemmas::no_notes, crate::proofs::NoteLemmas::noted_behind))]
     pub fn reserve(&mut self, facts: &[Fact]) -> Result<(), Memory>
         ensures list { self.new.list ≡ self.old.list }
         ensures ok { OnOk result (self.new.waiting ≡ facts.now) }
         ensures err { OnErr result (self.new.waiting ≡ []) }
     {
         self.waiting.clear();
-        self.waiting_subjects.clear();
+        self.waiting_notes.clear();
         self.waiting_realm = None;
         self.list.reserve(facts.len())?;
-        self.subjects.reserve(facts.len())?;
+        self.notes.reserve(facts.len())?;
         let realm = put_realm(self.alloc, facts)?;
-        let subjects = subjects(self.alloc, facts)?;
+        let notes = notes(self.alloc, self.known_serial, facts)?;
         self.waiting = copies(self.alloc, facts)?;
-        self.waiting_subjects = subjects;
+        self.waiting_notes = notes;
         self.waiting_realm = realm;
         Ok(())
     }
 
     /// Moves the facts that wait to the end of the list. It takes no memory.
-    #[tactic(auto, using(crate::proofs::SerialLemmas::last_tab_serial_more, crate::proofs::SerialLemmas::last_stored_serial_more, crate::proofs::SerialLemmas::last_known_serial_more, crate::proofs::InForce::last_version_more, crate::proofs::InForce::current_realm_more, crate::proofs::SubjectLemmas::subjects_joined))]
+    #[tactic(auto, using(crate::proofs::SerialLemmas::last_tab_serial_more, crate::proofs::SerialLemmas::last_stored_serial_more, crate::proofs::SerialLemmas::last_known_serial_more, crate::proofs::InForce::last_version_more, crate::proofs::InForce::current_realm_more, crate::proofs::NoteLemmas::notes_joined, crate::proofs::NoteLemmas::no_notes))]
     pub fn add(&mut self)
         ensures list { self.new.list ≡ self.old.list ++ self.old.waiting }
         ensures waiting { self.new.waiting ≡ [] }
@@ -228,7 +258,7 @@ impl Chronicle {
         self.known_serial = fold_in(waiting, &KnownSerial, self.known_serial);
         self.version = fold_in(waiting, &Version, self.version);
         renew(&mut self.realm, &mut self.waiting_realm);
-        join(&mut self.subjects, &mut self.waiting_subjects);
+        join(&mut self.notes, &mut self.waiting_notes);
         join(&mut self.list, &mut self.waiting);
     }
 }

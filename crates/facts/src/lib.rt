@@ -10,6 +10,7 @@ mod fact;
 mod facts;
 mod fold;
 mod hold;
+mod note;
 mod realm_put;
 mod secret;
 mod subject;
@@ -30,6 +31,7 @@ pub use fact::Fact;
 pub use facts::Facts;
 pub use fold::{Fold, fold_in};
 pub use hold::{Hold, last_held_in, newer_held};
+pub use note::Note;
 pub use realm_data::{
     AcrLevel, Action, Client, OtpRule, OtpSecret, PasswordHash, Realm, RealmParts, RealmUser,
     RecoveryDigests, SessionLimits,

@@ -1,8 +1,21 @@
 ghost use Rattle.std.specs.Prelude.{◌≡◌};
-ghost use Rattle.facts.specs.Subjects.{subject_of, concerns, is_realm, is_account, is_of_user, is_login_in, is_of_secret, is_other};
+ghost use Rattle.facts.specs.Subjects.{
+  subject_of,
+  concerns,
+  is_of_root,
+  is_opening,
+  is_session,
+  is_of_session,
+  is_realm,
+  is_account,
+  is_of_user,
+  is_login_in,
+  is_of_secret,
+  is_other,
+};
 
 use crate::fact::Fact;
-use login_base::{RootKey, TabKey, UserId};
+use login_base::{RootKey, SessionId, TabKey, UserId};
 
 /// Of what a fact can say something. It is kept beside the fact, so that a question needs to read
 /// those facts alone that can have an answer.
@@ -16,12 +29,14 @@ pub enum Subject {
     Secret(u64),
     /// Of the tab with this serial.
     Tab(u64),
+    /// Of the opening of a tab in a root, both by their serials.
+    Opening { root: u64, tab: u64 },
     /// Of the login of a user in a tab, both by their serials.
     Login { tab: u64, user: u64 },
-    /// Of the tabs of the root with this serial.
-    Root(u64),
-    /// Of the tabs of any root: it names a session, and no root.
-    Session,
+    /// Of a session that begins in a root, both by their serials.
+    Root { root: u64, session: u64 },
+    /// Of the session with this serial, in whatever root.
+    Session(u64),
     /// Of something else.
     Other,
 }
@@ -44,21 +59,31 @@ impl Subject {
             Fact::SpentStep { credential, .. } | Fact::SpentRecovery { credential, .. } => {
                 Subject::Secret(*credential)
             }
-            Fact::Opened { tab, .. } | Fact::Rendered { tab, .. } | Fact::Named { tab, .. } => {
-                Subject::Tab(tab.0.serial)
-            }
+            Fact::Opened { root, tab, .. } => Subject::Opening {
+                root: root.0.serial,
+                tab: tab.0.serial,
+            },
+            Fact::Rendered { tab, .. } | Fact::Named { tab, .. } => Subject::Tab(tab.0.serial),
             Fact::Passed { tab, user, .. } | Fact::Completed { tab, user, .. } => Subject::Login {
                 tab: tab.0.serial,
                 user: user.0,
             },
             Fact::Session {
+                session,
                 root: Some(root),
                 ..
-            } => Subject::Root(root.0.serial),
-            Fact::Session { root: None, .. }
-            | Fact::Seen { .. }
-            | Fact::Level { .. }
-            | Fact::SessionEnd { .. } => Subject::Session,
+            } => Subject::Root {
+                root: root.0.serial,
+                session: session.0.serial,
+            },
+            Fact::Session {
+                session,
+                root: None,
+                ..
+            }
+            | Fact::Seen { session, .. }
+            | Fact::Level { session, .. }
+            | Fact::SessionEnd { session } => Subject::Session(session.0.serial),
             Fact::TokenMade { .. } | Fact::SpentToken { .. } | Fact::Mark { .. } => Subject::Other,
         }
     }
@@ -68,10 +93,58 @@ impl Subject {
         ensures value { result ≡ concerns root tab self }
     {
         match self {
-            Subject::Tab(serial) | Subject::Login { tab: serial, .. } => serial == tab.0.serial,
-            Subject::Root(serial) => serial == root.0.serial,
-            Subject::Session => true,
+            Subject::Tab(serial)
+            | Subject::Opening { tab: serial, .. }
+            | Subject::Login { tab: serial, .. } => serial == tab.0.serial,
+            Subject::Root { root: serial, .. } => serial == root.0.serial,
+            Subject::Session(_) => true,
             Subject::Realm | Subject::User(_) | Subject::Secret(_) | Subject::Other => false,
+        }
+    }
+
+    /// Whether it can be about the root: its tabs, or its session.
+    pub fn is_of_root(self, root: RootKey) -> bool
+        ensures value { result ≡ is_of_root root self }
+    {
+        match self {
+            Subject::Opening { root: serial, .. } | Subject::Root { root: serial, .. } => {
+                serial == root.0.serial
+            }
+            Subject::Session(_) => true,
+            Subject::Realm
+            | Subject::User(_)
+            | Subject::Secret(_)
+            | Subject::Tab(_)
+            | Subject::Login { .. }
+            | Subject::Other => false,
+        }
+    }
+
+    /// Whether it is the opening of a tab.
+    pub fn is_opening(self) -> bool
+        ensures value { result ≡ is_opening self }
+    {
+        matches!(self, Subject::Opening { .. })
+    }
+
+    /// Whether it is a session.
+    pub fn is_session(self) -> bool
+        ensures value { result ≡ is_session self }
+    {
+        matches!(self, Subject::Root { .. } | Subject::Session(_))
+    }
+
+    /// Whether it is this session.
+    pub fn is_of_session(self, session: SessionId) -> bool
+        ensures value { result ≡ is_of_session session self }
+    {
+        match self {
+            Subject::Root {
+                session: serial,
+                ..
+            }
+            | Subject::Session(serial) => serial == session.0.serial,
+            _ => false,
         }
     }
 

@@ -1,5 +1,5 @@
-ghost use Rattle.std.specs.Prelude.{◌≡◌};
-ghost use Rattle.facts.specs.Tabs.{is_live, live_session, who_of};
+ghost use Rattle.std.specs.Prelude.{◌≡◌, ◌<◌};
+ghost use Rattle.facts.specs.Tabs.{is_within_lives, tab_is_live, tab_is_known, is_live, live_session, who_of};
 
 use login_base::{Code, Moment, SessionId, UserId};
 
@@ -11,6 +11,31 @@ pub struct Opening {
     pub level: u32,
     pub life: u64,
     pub moment: Moment,
+}
+
+impl Opening {
+    /// Whether the moment `now` is before the end of so many of the tab's lives.
+    fn is_within(&self, lives: u64, now: Moment) -> bool
+        requires some { 0 < lives }
+        ensures value { result ≡ is_within_lives lives now self.now }
+    {
+        let (now, opened) = (now.millis(), self.moment.millis());
+        now < opened || (now - opened) / lives < self.life
+    }
+
+    /// Whether the tab lives at the moment `now`.
+    pub fn is_live(&self, now: Moment) -> bool
+        ensures value { result ≡ tab_is_live now self.now }
+    {
+        self.is_within(1, now)
+    }
+
+    /// Whether the tab isn't forgotten at the moment `now`: that is two lives after its opening.
+    pub fn is_known(&self, now: Moment) -> bool
+        ensures value { result ≡ tab_is_known now self.now }
+    {
+        self.is_within(2, now)
+    }
 }
 
 /// A session of a root, with the moments of its beginning and of its last use, and how long it
