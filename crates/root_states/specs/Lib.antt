@@ -1,0 +1,5 @@
+pub mod About
+pub mod Carrying
+pub mod Count
+pub mod Outlived
+pub mod Roots
