@@ -1,5 +1,5 @@
 -- What a login sees of a user's account.
-use Rattle.std.specs.Prelude.{ℕ, Bool, false, List, [], Option, Some, None, is_some, unwrap_or, option_and_then}
+use Rattle.std.specs.Prelude.{ℕ, Bool, false, List, [], Option, Some, None, is_some, unwrap_or, option_and_then, option_map}
 use Rattle.conditions.specs.declared.account.AccountView.{AccountView}
 use Rattle.conditions.specs.declared.secret_kind.SecretKind.{SecretKind}
 use Rattle.conditions.specs.Secrets.{has_secret}
@@ -30,11 +30,10 @@ view_of facts user =
     }
 
 -- the account of a user who may be unknown
-unfoldable pub account_of : List Fact → Option UserId → Option Account
-account_of facts None = None
-account_of facts (Some user) = Some (record { view = view_of facts user; next_code = next_code facts user })
+unfoldable pub account_of : List Fact → Option UserId → Account
+account_of facts who = record { view = option_map (view_of facts) who; next_code = option_and_then (next_code facts) who }
 
 -- the user is known and has the secret, of recovery codes an unspent one
-abbrev pub holds : Option Account → SecretKind → Bool
+abbrev pub holds : Option AccountView → SecretKind → Bool
 holds None secret = false
-holds (Some account) secret = has_secret account.view secret
+holds (Some account) secret = has_secret account secret

@@ -1,5 +1,6 @@
 pub mod Account
 pub mod Asked
+pub mod Evidence
+pub mod Login
 pub mod PasswordFor
 pub mod Progress
-pub mod Truths

@@ -10,10 +10,10 @@ use login_base::{Duplicate, Memory, Name, Sequence, Steps, UserId};
 use std::alloc::Global;
 use std::sync::ledger::Ledger;
 
-/// What a login sees of a user's account.
+/// What a login sees of the account of a user who may be unknown.
 #[derive(Debug, Drop)]
 pub struct Account {
-    pub view: AccountView,
+    pub view: Option<AccountView>,
     /// The number of the next recovery code, from 1.
     pub next_code: Option<u32>,
 }
@@ -50,11 +50,14 @@ pub(crate) fn account_of<L: Ledger>(
     facts: &Facts<'_>,
     who: Option<UserId>,
     steps: &mut Steps<L>,
-) -> Result<Option<Account>, Memory>
+) -> Result<Account, Memory>
     ensures { IfOk result (λ account. account ≡ account_of facts.now who) }
 {
     let Some(user) = who else {
-        return Ok(None);
+        return Ok(Account {
+            view: None,
+            next_code: None,
+        });
     };
     let next_code = next_code(alloc, facts, user, steps)?;
     let view = AccountView {
@@ -63,15 +66,18 @@ pub(crate) fn account_of<L: Ledger>(
         otp: otp_of(facts, user, steps).is_some(),
         recovery: next_code.is_some(),
     };
-    Ok(Some(Account { view, next_code }))
+    Ok(Account {
+        view: Some(view),
+        next_code,
+    })
 }
 
 /// Whether the user is known and has the secret, of recovery codes an unspent one.
-pub(crate) fn holds(account: &Option<Account>, secret: SecretKind) -> bool
+pub(crate) fn holds(account: &Option<AccountView>, secret: SecretKind) -> bool
     ensures { result ≡ holds account.now secret }
 {
     match account {
-        Some(account) => account.view.has(secret),
+        Some(account) => account.has(secret),
         None => false,
     }
 }

@@ -1,15 +1,16 @@
 ghost use Rattle.std.specs.Prelude.{◌≡◌, ◌++◌, IfOk, OnOk};
-ghost use Rattle.login_progress.specs.Asked.{can_answer, next_in, number_of, asked_as, asked_of};
+ghost use Rattle.login_progress.specs.Asked.{can_answer, number_of, asked_as, asked_of};
 
-use crate::account::{Account, holds};
-use conditions::SecretKind;
+use crate::account::holds;
+use crate::login::Login;
+use conditions::{AccountView, SecretKind};
 use facts::Need;
 use flow_tree::{Kind, Tree};
 use login_base::{Duplicate, Memory, Name, Sequence};
 use std::alloc::Global;
 
 /// Whether an execution of this kind can be answered now.
-fn can_answer(account: &Option<Account>, kind: Kind) -> bool
+fn can_answer(account: &Option<AccountView>, kind: Kind) -> bool
     ensures { result ≡ can_answer account.now kind }
 {
     match kind {
@@ -18,15 +19,6 @@ fn can_answer(account: &Option<Account>, kind: Kind) -> bool
         Kind::Otp => holds(account, SecretKind::Otp),
         Kind::Recovery => holds(account, SecretKind::Recovery),
         Kind::Allow | Kind::Deny | Kind::Cookie => false,
-    }
-}
-
-fn next_in(account: &Option<Account>) -> Option<u32>
-    ensures { result ≡ next_in account.now }
-{
-    match account {
-        Some(account) => account.next_code,
-        None => None,
     }
 }
 
@@ -49,18 +41,18 @@ fn number_of(next: Option<u32>, kind: Kind) -> u32
 /// Adds the execution where it can be answered.
 fn add_asked(
     alloc: Global,
-    account: &Option<Account>,
+    login: &Login,
     id: &Name,
     kind: Option<Kind>,
     asked: &mut Sequence<Need>,
 ) -> Result<(), Memory>
-    ensures { OnOk result (asked.new ≡ asked.old ++ asked_as account.now id.now kind) }
+    ensures { OnOk result (asked.new ≡ asked.old ++ asked_as login.now id.now kind) }
 {
     match kind {
-        Some(kind) if can_answer(account, kind) => asked.push(Need {
+        Some(kind) if can_answer(&login.view.account, kind) => asked.push(Need {
             id: id.duplicate(alloc)?,
             kind,
-            number: number_of(next_in(account), kind),
+            number: number_of(login.next_code, kind),
         }),
         _ => Ok(()),
     }
@@ -71,14 +63,14 @@ fn add_asked(
 pub(crate) fn asked_of(
     alloc: Global,
     tree: &Tree,
-    account: &Option<Account>,
+    login: &Login,
     needs: &[Name],
 ) -> Result<Sequence<Need>, Memory>
-    ensures { IfOk result (λ asked. asked ≡ asked_of tree.now account.now needs.now) }
+    ensures { IfOk result (λ asked. asked ≡ asked_of tree.now login.now needs.now) }
 {
     let mut asked = Sequence::new(alloc);
     for id in needs {
-        add_asked(alloc, account, id, tree.kind_of(id), &mut asked)?;
+        add_asked(alloc, login, id, tree.kind_of(id), &mut asked)?;
     }
     Ok(asked)
 }

@@ -2,7 +2,6 @@ ghost use Rattle.std.specs.Prelude.{◌≡◌, IfOk};
 ghost use Rattle.std.specs.Option.{option_copied};
 ghost use Rattle.login_progress.specs.Asked.{is_deny, lacks_setup, first_denied, first_lacking, first_not_configured, blocked};
 
-use crate::account::Account;
 use crate::progress::Progress;
 use conditions::{AccountView, kind_configured};
 use flow_tree::{Kind, Tree};
@@ -45,13 +44,13 @@ fn first_lacking<'a>(tree: &Tree, account: &AccountView, needs: &'a [Name]) -> O
 /// The first need that a known user hasn't set up.
 fn first_not_configured<'a>(
     tree: &Tree,
-    account: &Option<Account>,
+    account: &Option<AccountView>,
     needs: &'a [Name],
 ) -> Option<&'a Name>
     ensures { option_copied result ≡ first_not_configured tree.now account.now needs.now }
 {
     match account {
-        Some(account) => first_lacking(tree, &account.view, needs),
+        Some(account) => first_lacking(tree, account, needs),
         None => None,
     }
 }
@@ -61,7 +60,7 @@ fn first_not_configured<'a>(
 pub(crate) fn blocked(
     alloc: Global,
     tree: &Tree,
-    account: &Option<Account>,
+    account: &Option<AccountView>,
     needs: &[Name],
 ) -> Result<Progress, Memory>
     ensures { IfOk result (λ progress. progress ≡ blocked tree.now account.now needs.now) }

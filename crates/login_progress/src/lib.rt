@@ -1,18 +1,19 @@
-//! How far a login has come: which leaves of its flow are true, what the flow still needs, and
-//! what of that a page can ask.
+//! How far a login has come: what its flow is judged by, what the flow still needs, and what of that
+//! a page can ask.
 #![tactic(auto)]
 
 mod account;
 mod asked;
 mod blocked;
+mod evidence;
 mod known_tab;
+mod login;
 mod password;
 mod progress;
 mod recovery;
-mod truths;
 
-pub use account::Account;
 pub use known_tab::KnownTab;
+pub use login::Login;
 pub use password::password_for;
 pub use progress::{Progress, progress_of};
 pub use recovery::recovery_list;

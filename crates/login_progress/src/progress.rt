@@ -1,24 +1,25 @@
 ghost use Rattle.std.specs.Prelude.{◌≡◌, IfOk};
 ghost use Rattle.flow_tree.specs.Flow.{flow_needs};
-ghost use Rattle.login_progress.specs.Progress.{lacking_by, lacking, progress_in, progress_of};
+ghost use Rattle.login_progress.specs.Progress.{lacking, granted_for, holding, progress_by, progress_in, progress_of};
 
-use crate::account::{Account, account_of};
 use crate::asked::asked_of;
 use crate::blocked::blocked;
 use crate::known_tab::KnownTab;
-use crate::truths::truths_of;
+use crate::login::{Login, login_in};
 use fact_scans::realm_of;
 use facts::{Facts, Need};
 use flow_tree::{Tree, Truths};
-use login_base::{Memory, Moment, Name, Sequence, Steps, TabKey, UserId};
+use flow_truths::{is_granted, levels_reached, truths_of};
+use login_base::{Memory, Moment, Name, Sequence, Steps, UserId};
 use std::alloc::Global;
 use std::sync::ledger::Ledger;
 
 /// How far a login has come.
 #[derive(Debug, Drop)]
 pub enum Progress {
-    /// The flow holds for this user.
-    Ready { user: UserId },
+    /// The flow holds for this user, and the asked level is granted. A completion records these
+    /// levels, ascending.
+    Ready { user: UserId, levels: Sequence<u32> },
     /// These executions are asked.
     Asked { asked: Sequence<Need> },
     /// Nothing is asked, and this deny is needed.
@@ -27,63 +28,76 @@ pub enum Progress {
     NotConfigured { execution: Name },
     /// Nothing is asked, or the flow holds for nobody.
     DeadEnd,
+    /// The flow holds for a known user, but this level, which the tab asks, isn't granted.
+    LevelMissed { level: u32 },
 }
 
 /// What is asked of these needs, or why nothing is.
-fn lacking_by(
-    alloc: Global,
-    account: &Option<Account>,
-    tree: &Tree,
-    needs: &[Name],
-) -> Result<Progress, Memory>
-    ensures { IfOk result (λ progress. progress ≡ lacking_by account.now tree.now needs.now) }
+fn lacking(alloc: Global, login: &Login, tree: &Tree, needs: &[Name]) -> Result<Progress, Memory>
+    ensures { IfOk result (λ progress. progress ≡ lacking login.now tree.now needs.now) }
 {
-    let asked = asked_of(alloc, tree, account, needs)?;
+    let asked = asked_of(alloc, tree, login, needs)?;
     if asked.is_empty() {
-        blocked(alloc, tree, account, needs)
+        blocked(alloc, tree, &login.view.account, needs)
     } else {
         Ok(Progress::Asked { asked })
     }
 }
 
-/// What a flow that doesn't hold asks, or why it asks nothing.
-fn lacking<L: Ledger>(
+/// What a flow that holds comes to for this user.
+fn granted_for(
     alloc: Global,
-    facts: &Facts<'_>,
-    who: Option<UserId>,
-    tree: &Tree,
+    login: &Login,
     truths: &Truths,
-    steps: &mut Steps<L>,
+    tree: &Tree,
+    user: UserId,
 ) -> Result<Progress, Memory>
-    ensures { IfOk result (λ progress. progress ≡
-        lacking facts.now who tree.now (flow_needs truths.now.held tree.now)) }
+    ensures { IfOk result (λ progress. progress ≡ granted_for login.now truths.now.held tree.now user) }
 {
-    let needs = tree.needs_by(truths)?;
-    let account = account_of(alloc, facts, who, steps)?;
-    lacking_by(alloc, &account, tree, needs.as_slice())
+    let level = login.view.level;
+    if !is_granted(&login.view, truths, tree) {
+        return Ok(Progress::LevelMissed { level });
+    }
+    let levels = levels_reached(alloc, truths, level, tree)?;
+    Ok(Progress::Ready { user, levels })
 }
 
-/// How far a login of this user in a tab has come on a flow.
+/// How far a login has come, by what is true of its flow.
+fn progress_by(
+    alloc: Global,
+    login: &Login,
+    truths: &Truths,
+    tree: &Tree,
+    who: Option<UserId>,
+) -> Result<Progress, Memory>
+    ensures { IfOk result (λ progress. progress ≡ progress_by login.now truths.now.held tree.now who) }
+{
+    if !tree.holds_by(truths) {
+        let needs = tree.needs_by(truths)?;
+        return lacking(alloc, login, tree, needs.as_slice());
+    }
+    match who {
+        Some(user) => granted_for(alloc, login, truths, tree, user),
+        None => Ok(Progress::DeadEnd),
+    }
+}
+
+/// How far a login in a tab has come on a flow, for a user who may be unknown.
 #[tactic(auto, unfolding(crate::specs::Progress::progress_in))]
 fn progress_in<L: Ledger>(
     alloc: Global,
     facts: &Facts<'_>,
-    tab: TabKey,
+    moment: Moment,
+    known: &KnownTab,
     who: Option<UserId>,
     tree: &Tree,
     steps: &mut Steps<L>,
 ) -> Result<Progress, Memory>
-    ensures { IfOk result (λ progress. progress ≡ progress_in facts.now tab who tree.now) }
+    ensures { IfOk result (λ progress. progress ≡ progress_in facts.now moment known.now who tree.now) }
 {
-    let leaves = tree.leaves()?;
-    let truths = truths_of(alloc, facts, tab, who, leaves.as_slice(), steps)?;
-    if !tree.holds_by(&truths) {
-        return lacking(alloc, facts, who, tree, &truths, steps);
-    }
-    Ok(match who {
-        Some(user) => Progress::Ready { user },
-        None => Progress::DeadEnd,
-    })
+    let login = login_in(alloc, facts, moment, known, who, tree, steps)?;
+    let truths = truths_of(alloc, &login.view, tree)?;
+    progress_by(alloc, &login, &truths, tree, who)
 }
 
 /// How far the login in a tab has come, under the realm with which the tab was opened.
@@ -98,14 +112,10 @@ pub fn progress_of<L: Ledger>(
     ensures ok { IfOk result (λ progress. progress ≡ progress_of facts.now moment known.now) }
 {
     match realm_of(facts, known.opening.version, steps) {
-        Some(realm) => progress_in(
-            alloc,
-            facts,
-            known.tab,
-            known.state.who(moment),
-            &realm.parts().flow,
-            steps,
-        ),
+        Some(realm) => {
+            let who = known.state.who(moment);
+            progress_in(alloc, facts, moment, known, who, &realm.parts().flow, steps)
+        }
         None => Ok(Progress::DeadEnd),
     }
 }

@@ -3,7 +3,6 @@ ghost use Rattle.std.specs.List.{list_all};
 ghost use Rattle.realm_data.specs.RealmBuilt.{is_plain, is_built};
 
 use crate::realm_parts::{RealmParts, RealmUser};
-use flow_tree::Kind;
 
 fn is_plain(user: &RealmUser) -> bool
     ensures { result ≡ is_plain user.now }
@@ -22,6 +21,5 @@ fn are_plain(users: &[RealmUser]) -> bool
 pub(crate) fn is_built(parts: &RealmParts) -> bool
     ensures { result ≡ is_built parts.now }
 {
-    let flow = &parts.flow;
-    !flow.has_kind(Kind::Cookie) && !flow.has_condition() && are_plain(parts.users.as_slice())
+    are_plain(parts.users.as_slice())
 }

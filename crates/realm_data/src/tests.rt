@@ -411,35 +411,6 @@ fn a_hash_has_ranges(rt: HostRuntime) {
 
 // ---- realms
 
-/// Whether a realm of this flow, with this user if any, is built.
-fn is_built(alloc: Global, flow: Tree, user: Option<RealmUser>) -> Result<bool, Memory> {
-    let mut parts = parts(alloc, flow)?;
-    if let Some(user) = user {
-        parts.users.push(user)?;
-    }
-    Ok(some(Realm::new(alloc, parts)?)?.built())
-}
-
-#[test]
-fn these_kinds_are_built_and_no_condition(rt: HostRuntime) -> Result<(), Fail> {
-    let alloc = rt.alloc();
-    for kind in [
-        Kind::Allow,
-        Kind::Deny,
-        Kind::Username,
-        Kind::Password,
-        Kind::Form,
-        Kind::Otp,
-        Kind::Recovery,
-    ] {
-        assert!(rt; is_built(alloc, flow_of(alloc, kind)?, None)?);
-    }
-    assert!(rt; !is_built(alloc, flow_of(alloc, Kind::Cookie)?, None)?);
-    let flow = flow_with(alloc, Requirement::Disabled, Cond::Configured)?;
-    assert!(rt; !is_built(alloc, flow, None)?);
-    Ok(())
-}
-
 /// A user with a password and a role.
 fn ann(alloc: Global) -> Result<RealmUser, Memory> {
     let mut ann = user(alloc, name(alloc, "ann")?);
@@ -448,8 +419,11 @@ fn ann(alloc: Global) -> Result<RealmUser, Memory> {
     Ok(ann)
 }
 
+/// Whether a realm with this user is built.
 fn is_built_with(alloc: Global, user: RealmUser) -> Result<bool, Memory> {
-    is_built(alloc, flow_of(alloc, Kind::Form)?, Some(user))
+    let mut parts = parts(alloc, flow_of(alloc, Kind::Form)?)?;
+    parts.users.push(user)?;
+    Ok(some(Realm::new(alloc, parts)?)?.built())
 }
 
 #[test]
