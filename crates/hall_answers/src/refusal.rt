@@ -21,10 +21,20 @@ pub enum Refusal {
     RealmRefused,
     /// The realm can't be played yet.
     NotYet,
+    /// There is no such session, or it has been ended.
+    NoSuchSession,
     /// The realm has no such client.
     UnknownClient,
-    /// The root has no such tab.
+    /// The realm has no level of the asked name.
+    LevelUnknown,
+    /// A new root is needed, and as many are known as may be.
+    TooManyRoots,
+    /// So many tabs are known in the root, or in all roots: as many as may be.
+    TooManyTabs { count: u32 },
+    /// No root is given, or it has no such tab that is known.
     UnknownTab,
+    /// The tab's life is over.
+    TabExpired,
     /// The code isn't the one that was shown last.
     Stale { current: Option<Code> },
     /// The user of the tab, or of the post, isn't the one of the root's live session.

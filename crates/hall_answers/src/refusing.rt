@@ -60,8 +60,15 @@ fn what_of<L: Ledger>(
             rule: Rule::RealmRefused,
         },
         Refusal::NotYet => What::AdminRefused { rule: Rule::NotYet },
+        Refusal::NoSuchSession => What::AdminRefused {
+            rule: Rule::NoSuchSession,
+        },
         Refusal::UnknownClient => What::UnknownClient,
+        Refusal::LevelUnknown => What::LevelUnknown,
+        Refusal::TooManyRoots => What::TooManyRoots { count: 65_536 },
+        Refusal::TooManyTabs { count } => What::TooManyTabs { count },
         Refusal::UnknownTab => What::UnknownTab,
+        Refusal::TabExpired => What::TabExpired,
         Refusal::Stale { current } => What::Stale { current },
         Refusal::OtherUser { tab, session } => What::OtherUser {
             tab: who_named(alloc, facts, tab, steps)?,

@@ -1,7 +1,8 @@
 -- How far the asks of browsers lift the counters.
 use Rattle.std.proofs.Common.{◌≡◌, ℕ, ◌-◌, ◌^◌, List, [], ◌∷◌, ◌++◌, Option, Some, None, refl, arith}
-use Rattle.std.specs.Prelude.{Result, Ok, Err}
+use Rattle.std.specs.Prelude.{Result, Ok, Err, fold}
 use Rattle.login_base.specs.declared.id.RootKey.{RootKey}
+use Rattle.login_base.specs.declared.id.SessionId.{SessionId}
 use Rattle.login_base.specs.declared.id.TabKey.{TabKey}
 use Rattle.login_base.specs.declared.id.UserId.{UserId}
 use Rattle.asks.specs.declared.ask.Form.{Form}
@@ -9,6 +10,9 @@ use Rattle.asks.specs.declared.ask.Form.TheVariants as forms
 use Rattle.asks.specs.declared.ask.NewTab.{NewTab}
 use Rattle.asks.specs.declared.ask.Post.{Post}
 use Rattle.facts.specs.declared.fact.Fact.{Fact}
+use Rattle.facts.specs.declared.fact.Fact.TheVariants as events
+use Rattle.facts.specs.Realms.{last_version, version_after}
+use Rattle.facts.specs.Serials.{last_tab_serial, last_stored_serial, tab_serial_after, stored_serial_after}
 use Rattle.asks.specs.declared.finding.Finding.{Finding}
 use Rattle.asks.specs.declared.reply.Need.{Need}
 use Rattle.facts.specs.declared.tabs.RootSession.{RootSession}
@@ -29,26 +33,66 @@ use Rattle.tab_asks.specs.declared.check.Spent.{Spent}
 use Rattle.tab_asks.specs.declared.check.Spent.TheVariants as spends
 use Rattle.tab_asks.specs.declared.passing.Passing.{Passing}
 use Rattle.tab_asks.specs.Forms.{code_evidence, evidence_of}
-use Rattle.tab_asks.specs.NewTab.{check_new_tab, opening_fact, new_tab_answer, due_new_tab}
-use Rattle.tab_asks.specs.Pages.{completion, progress_answer, tab_answer, tab_answer_then, visit_answer, due_page}
+use Rattle.tab_asks.specs.declared.place.Place.{Place}
+use Rattle.tab_asks.specs.Logout.{live_in, end_facts, due_logout}
+use Rattle.tab_asks.specs.NewTab.{IsNext, check_new_tab, opening_fact, opening_facts, new_tab_answer, due_new_tab}
+use Rattle.tab_asks.specs.Pages.{session_for, beginning, levels_recorded, seen_now, completion, progress_answer, tab_answer, tab_answer_then, visit_answer, due_page}
 use Rattle.tab_asks.specs.Post.{check_post, check_form, evidence_by, answer_to_accepted, shown_again, answer_to_check, post_where, post_by, post_in, due_post}
 use Rattle.tab_asks.specs.Visit.{check_tab, check_visit}
+use Rattle.tab_asks.proofs.PlaceLemmas.{place_checked}
 
 -- ---- what a tab is answered
 
-completion_lifts : (old : List Fact) (setting : Setting) (known : KnownTab) (user : UserId) (live : Option RootSession) → live_session setting.moment known.state ≡ live
-    → Lifts 1 old (completion old setting known user).added
+-- levels are recorded without a serial
+tabs_recorded : (n : ℕ) (setting : Setting) (session : SessionId) (levels : List ℕ) → fold tab_serial_after n (levels_recorded setting session levels) ≡ n
+tabs_recorded n setting session [] = refl
+tabs_recorded n setting session (level ∷ levels) = tabs_recorded n setting session levels
+
+stored_recorded : (n : ℕ) (setting : Setting) (session : SessionId) (levels : List ℕ) → fold stored_serial_after n (levels_recorded setting session levels) ≡ n
+stored_recorded n setting session [] = refl
+stored_recorded n setting session (level ∷ levels) = stored_recorded n setting session levels
+
+version_recorded : (n : ℕ) (setting : Setting) (session : SessionId) (levels : List ℕ) → fold version_after n (levels_recorded setting session levels) ≡ n
+version_recorded n setting session [] = refl
+version_recorded n setting session (level ∷ levels) = version_recorded n setting session levels
+
+levels_lift : (old : List Fact) (setting : Setting) (session : SessionId) (levels : List ℕ) → Lifts 0 old (levels_recorded setting session levels)
+levels_lift old setting session levels =
+    let t = tabs_recorded (last_tab_serial old) setting session levels in
+    let s = stored_recorded (last_stored_serial old) setting session levels in
+    lifts 0 old _ (omega (arith, t)) (omega (arith, s)) (version_recorded (last_version old) setting session levels)
+
+seen_lifts : (old : List Fact) (setting : Setting) (live : Option RootSession) → Lifts 0 old (seen_now setting live)
+seen_lifts old setting None = nothing 0 old
+seen_lifts old setting (Some own) = lifts 0 old _ (omega arith) (omega arith) refl
+
+beginning_lifts : (old : List Fact) (setting : Setting) (root : RootKey) (user : UserId) (live : Option RootSession)
+    → Lifts 1 old (beginning setting (session_for old setting.draws live) root user live)
+beginning_lifts old setting root user None = lifts 1 old _ (omega arith) (omega arith) refl
+beginning_lifts old setting root user (Some own) = nothing 1 old
+
+completed_lifts : (old : List Fact) (known : KnownTab) (user : UserId) (session : SessionId) (moment : ℕ) → Lifts 0 old (events.Completed known.tab user session moment ∷ [])
+completed_lifts old known user session moment = lifts 0 old _ (omega arith) (omega arith) refl
+
+completion_lifts : (old : List Fact) (setting : Setting) (known : KnownTab) (user : UserId) (levels : List ℕ) → Lifts 1 old (completion old setting known user levels).added
 unfolding completion
-completion_lifts old setting known user None h = rw h (lifts 1 old _ (omega arith) (omega arith) refl)
-completion_lifts old setting known user (Some own) h = rw h (lifts 1 old _ (omega arith) (omega arith) refl)
+completion_lifts old setting known user levels =
+    let live = live_session setting.moment known.state in
+    let session = session_for old setting.draws live in
+    let begun = beginning setting session known.root user live in
+    let recorded = levels_recorded setting session levels in
+    let first = both 1 0 old begun recorded (beginning_lifts old setting known.root user live) (levels_lift (old ++ begun) setting session levels) in
+    let second = both 1 0 old (begun ++ recorded) (seen_now setting live) first (seen_lifts (old ++ (begun ++ recorded)) setting live) in
+    both 1 0 old (begun ++ recorded ++ seen_now setting live) _ second (completed_lifts _ known user session setting.moment)
 
 progress_lifts : (old : List Fact) (setting : Setting) (known : KnownTab) (progress : Progress) → Lifts 1 old (progress_answer old setting known progress).added
 unfolding progress_answer
-progress_lifts old setting known (progresses.Ready user) = completion_lifts old setting known user (live_session setting.moment known.state) refl
+progress_lifts old setting known (progresses.Ready user levels) = completion_lifts old setting known user levels
 progress_lifts old setting known (progresses.Asked asked) = lifts 1 old _ (omega arith) (omega arith) refl
 progress_lifts old setting known (progresses.Denied execution) = nothing 1 old
 progress_lifts old setting known (progresses.NotConfigured execution) = nothing 1 old
 progress_lifts old setting known progresses.DeadEnd = nothing 1 old
+progress_lifts old setting known (progresses.LevelMissed level) = nothing 1 old
 
 tab_lifts : (old : List Fact) (setting : Setting) (known : KnownTab) → Lifts 1 old (tab_answer old setting known).added
 unfolding tab_answer
@@ -64,22 +108,27 @@ visit_lifts old setting known = may_lifts old setting known (check_visit old set
 
 -- ---- opens and pages
 
-opening_lifts : (setting : Setting) (level : ℕ) → Lifts 2 setting.facts (opening_fact setting level ∷ [])
-opening_lifts setting level = lifts 2 setting.facts _ (omega arith) (omega arith) refl
+opened_lifts : (setting : Setting) (place : Place) (live : Option RootSession) → IsNext setting place → Lifts 2 setting.facts (seen_now setting live ++ opening_fact setting place ∷ [])
+opened_lifts setting place None next = let r = next.root in let t = next.tab in lifts 2 setting.facts _ (omega (arith, r, t)) (omega arith) refl
+opened_lifts setting place (Some own) next = let r = next.root in let t = next.tab in lifts 2 setting.facts _ (omega (arith, r, t)) (omega arith) refl
 
-new_lifts : (setting : Setting) (level : ℕ) → Lifts 3 setting.facts (new_tab_answer setting level).added
+opening_lifts : (setting : Setting) (place : Place) → IsNext setting place → Lifts 2 setting.facts (opening_facts setting place)
+opening_lifts setting place next = opened_lifts setting place place.live next
+
+new_lifts : (setting : Setting) (place : Place) → IsNext setting place → Lifts 3 setting.facts (new_tab_answer setting place).added
 unfolding new_tab_answer
-new_lifts setting level =
-    let opened = opening_fact setting level ∷ [] in
-    both 2 1 setting.facts opened _ (opening_lifts setting level) (visit_lifts (setting.facts ++ opened) setting _)
+new_lifts setting place next =
+    let opened = opening_facts setting place in
+    both 2 1 setting.facts opened _ (opening_lifts setting place next) (visit_lifts (setting.facts ++ opened) setting _)
 
-level_lifts : (setting : Setting) (level : Result ℕ Refusal) → Lifts 3 setting.facts (settled setting.facts None (new_tab_answer setting) level).added
-level_lifts setting (Ok level) = new_lifts setting level
-level_lifts setting (Err refusal) = nothing 3 setting.facts
+place_lifts : (setting : Setting) (new : NewTab) (place : Result Place Refusal) → check_new_tab setting new ≡ place
+    → Lifts 3 setting.facts (settled setting.facts None (new_tab_answer setting) place).added
+place_lifts setting new (Ok place) h = new_lifts setting place (place_checked setting new place h)
+place_lifts setting new (Err refusal) h = nothing 3 setting.facts
 
 pub new_tab_lifts : (setting : Setting) (new : NewTab) → Lifts 3 setting.facts (due_new_tab setting new).added
 unfolding due_new_tab
-new_tab_lifts setting new = level_lifts setting (check_new_tab setting.realm new)
+new_tab_lifts setting new = place_lifts setting new (check_new_tab setting new) refl
 
 shown_lifts : (setting : Setting) (known : Result KnownTab Refusal) → Lifts 1 setting.facts (settled setting.facts None (visit_answer setting.facts setting) known).added
 shown_lifts setting (Ok known) = visit_lifts setting.facts setting known
@@ -87,7 +136,7 @@ shown_lifts setting (Err refusal) = nothing 1 setting.facts
 
 pub page_lifts : (setting : Setting) (root : Option RootKey) (tab : TabKey) → Lifts 1 setting.facts (due_page setting root tab).added
 unfolding due_page
-page_lifts setting root tab = shown_lifts setting (check_tab setting.facts root tab)
+page_lifts setting root tab = shown_lifts setting (check_tab setting.facts setting.moment root tab)
 
 -- ---- posts
 
@@ -145,12 +194,22 @@ known_lifts setting post finding (Err refusal) = nothing 1 setting.facts
 
 pub post_lifts : (setting : Setting) (post : Post) (finding : Finding) → Lifts 1 setting.facts (due_post setting post finding).added
 unfolding due_post
-post_lifts setting post finding = known_lifts setting post finding (check_tab setting.facts post.root post.tab)
+post_lifts setting post finding = known_lifts setting post finding (check_tab setting.facts setting.moment post.root post.tab)
+
+-- ---- logouts
+
+end_lifts : (old : List Fact) (live : Option RootSession) → Lifts 0 old (end_facts live)
+end_lifts old None = nothing 0 old
+end_lifts old (Some own) = lifts 0 old _ (omega arith) (omega arith) refl
+
+pub logout_lifts : (setting : Setting) (root : Option RootKey) → Lifts 0 setting.facts (due_logout setting root).added
+unfolding due_logout
+logout_lifts setting root = end_lifts setting.facts (live_in setting root)
 
 -- ---- room for what comes after
 
-pub opening_leaves_room : (setting : Setting) (level : ℕ) → HasSerials setting.facts (2 ^ 63 - 8) → HasSerials (setting.facts ++ opening_fact setting level ∷ []) (2 ^ 63)
-opening_leaves_room setting level has = leaves_room 2 setting.facts _ (omega arith) has (opening_lifts setting level)
+pub opening_leaves_room : (setting : Setting) (place : Place) → IsNext setting place → HasSerials setting.facts (2 ^ 63 - 8) → HasSerials (setting.facts ++ opening_facts setting place) (2 ^ 63)
+opening_leaves_room setting place next has = leaves_room 2 setting.facts _ (omega arith) has (opening_lifts setting place next)
 
 pub evidence_leaves_room : (old : List Fact) (passing : Passing) (form : Form) → HasSerials old (2 ^ 63 - 8) → HasSerials (old ++ evidence_of passing form) (2 ^ 63)
 evidence_leaves_room old passing form has = leaves_room 0 old _ (omega arith) has (evidence_lifts old passing form)

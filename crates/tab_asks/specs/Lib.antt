@@ -1,5 +1,6 @@
 pub mod Codes
 pub mod Forms
+pub mod Logout
 pub mod NewTab
 pub mod Pages
 pub mod Post

@@ -1,5 +1,5 @@
 -- What a tab is answered that may go on: a page, a completion, or why there is neither.
-use Rattle.std.specs.Prelude.{ℕ, Bool, true, false, List, [], ◌∷◌, Option, Some, None, is_some, replicate}
+use Rattle.std.specs.Prelude.{ℕ, List, [], ◌∷◌, ◌++◌, map, Option, Some, None, replicate}
 use Rattle.login_base.specs.declared.id.Code.{Code}
 use Rattle.login_base.specs.declared.id.RootKey.{RootKey}
 use Rattle.login_base.specs.declared.id.SessionId.{SessionId}
@@ -44,27 +44,42 @@ abbrev pub session_for : List Fact → Draws → Option RootSession → SessionI
 session_for facts draws (Some own) = own.session
 session_for facts draws None = next_session facts draws
 
--- a live session is seen, and a new one begins, which lives as the realm in force says
-abbrev pub session_fact : Setting → SessionId → RootKey → UserId → Bool → Fact
-session_fact setting session root user true = events.Seen session setting.moment
-session_fact setting session root user false = events.Session session (Some root) user setting.moment setting.realm.session.idle setting.realm.session.max
+-- a session begins where none is live, and lives as the realm in force says
+abbrev pub beginning : Setting → SessionId → RootKey → UserId → Option RootSession → List Fact
+beginning setting session root user (Some own) = []
+beginning setting session root user None =
+    events.Session session (Some root) user setting.moment setting.realm.session.idle setting.realm.session.max ∷ []
 
--- the login completes
-unfoldable pub completion : List Fact → Setting → KnownTab → UserId → Answer
-completion facts setting known user =
+-- the session has reached these levels
+abbrev pub levels_recorded : Setting → SessionId → List ℕ → List Fact
+levels_recorded setting session levels = map (λ level. events.Level session level setting.moment) levels
+
+-- a live session is used
+abbrev pub seen_now : Setting → Option RootSession → List Fact
+seen_now setting None = []
+seen_now setting (Some own) = events.Seen own.session setting.moment ∷ []
+
+abbrev pub completion_facts : Setting → KnownTab → UserId → List ℕ → SessionId → Option RootSession → List Fact
+completion_facts setting known user levels session live =
+    beginning setting session known.root user live ++ levels_recorded setting session levels ++ seen_now setting live
+    ++ events.Completed known.tab user session setting.moment ∷ []
+
+-- the login completes, and records these levels
+unfoldable pub completion : List Fact → Setting → KnownTab → UserId → List ℕ → Answer
+completion facts setting known user levels =
     let live = live_session setting.moment known.state in
     let session = session_for facts setting.draws live in
-    answer_in known.tab (whats.Done session (who_named facts user) known.opening.level)
-    (session_fact setting session known.root user (is_some live) ∷ events.Completed known.tab user session setting.moment ∷ [])
+    answer_in known.tab (whats.Done session (who_named facts user) known.opening.level) (completion_facts setting known user levels session live)
 
 -- ---- all together
 
 unfoldable pub progress_answer : List Fact → Setting → KnownTab → Progress → Answer
-progress_answer facts setting known (progresses.Ready user) = completion facts setting known user
+progress_answer facts setting known (progresses.Ready user levels) = completion facts setting known user levels
 progress_answer facts setting known (progresses.Asked asked) = form_page facts setting known.tab asked
 progress_answer facts setting known (progresses.Denied execution) = only (Some known.tab) (whats.Denied execution)
 progress_answer facts setting known (progresses.NotConfigured execution) = only (Some known.tab) (whats.NotConfigured execution)
 progress_answer facts setting known progresses.DeadEnd = only (Some known.tab) whats.DeadEnd
+progress_answer facts setting known (progresses.LevelMissed level) = only (Some known.tab) (whats.LevelMissed level)
 
 -- what a tab is answered over these facts
 unfoldable pub tab_answer : List Fact → Setting → KnownTab → Answer
@@ -79,4 +94,4 @@ visit_answer facts setting known = settled facts (Some known.tab) (tab_answer_th
 
 -- a page that is shown again is due a new code
 unfoldable pub due_page : Setting → Option RootKey → TabKey → Answer
-due_page setting root tab = settled setting.facts None (visit_answer setting.facts setting) (check_tab setting.facts root tab)
+due_page setting root tab = settled setting.facts None (visit_answer setting.facts setting) (check_tab setting.facts setting.moment root tab)

@@ -167,4 +167,4 @@ unfoldable pub post_in : Setting → Post → Finding → KnownTab → Answer
 post_in setting post finding known = settled setting.facts (Some known.tab) (post_by setting post.form finding known) (check_post setting.facts setting.moment known post)
 
 unfoldable pub due_post : Setting → Post → Finding → Answer
-due_post setting post finding = settled setting.facts None (post_in setting post finding) (check_tab setting.facts post.root post.tab)
+due_post setting post finding = settled setting.facts None (post_in setting post finding) (check_tab setting.facts setting.moment post.root post.tab)

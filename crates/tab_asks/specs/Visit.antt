@@ -11,23 +11,36 @@ use Rattle.account_states.specs.States.{is_closed}
 use Rattle.account_states.specs.Standings.{standing_of}
 use Rattle.lockout.specs.declared.standing.Standing.{Standing}
 use Rattle.lockout.specs.Standing.{is_locked}
-use Rattle.facts.specs.Tabs.{tab_state, live_session, who_of}
+use Rattle.facts.specs.Tabs.{tab_state, tab_is_known, tab_is_live, live_session, who_of}
 use Rattle.hall_answers.specs.declared.refusal.Refusal.{Refusal}
-use Rattle.hall_answers.specs.declared.refusal.Refusal.TheVariants.{UnknownTab, OtherUser, Finished, Locked, Disabled}
+use Rattle.hall_answers.specs.declared.refusal.Refusal.TheVariants.{UnknownTab, TabExpired, OtherUser, Finished, Locked, Disabled}
 use Rattle.hall_answers.specs.Refusals.{◌>>=◌}
 use Rattle.login_progress.specs.declared.known_tab.KnownTab.{KnownTab}
 
-abbrev pub tab_with : RootKey → TabKey → TabState → Option Opening → Result KnownTab Refusal
-tab_with root tab state None = Err UnknownTab
-tab_with root tab state (Some opening) = Ok (record { root = root; tab = tab; opening = opening; state = state })
+-- a tab that isn't forgotten at the moment
+abbrev pub tab_with : ℕ → RootKey → TabKey → TabState → Option Opening → Result KnownTab Refusal
+tab_with moment root tab state None = Err UnknownTab
+tab_with moment root tab state (Some opening) =
+    if tab_is_known moment opening then Ok (record { root = root; tab = tab; opening = opening; state = state }) else Err UnknownTab
 
-unfoldable pub tab_in : List Fact → RootKey → TabKey → Result KnownTab Refusal
-tab_in facts root tab = tab_with root tab (tab_state root tab facts) (tab_state root tab facts).opening
+unfoldable pub tab_in : List Fact → ℕ → RootKey → TabKey → Result KnownTab Refusal
+tab_in facts moment root tab = tab_with moment root tab (tab_state root tab facts) (tab_state root tab facts).opening
 
--- a root is given, and it has the tab
-unfoldable pub check_tab : List Fact → Option RootKey → TabKey → Result KnownTab Refusal
-check_tab facts None tab = Err UnknownTab
-check_tab facts (Some root) tab = tab_in facts root tab
+-- a root is given, and it has the tab, which is known
+unfoldable pub check_known : List Fact → ℕ → Option RootKey → TabKey → Result KnownTab Refusal
+check_known facts moment None tab = Err UnknownTab
+check_known facts moment (Some root) tab = tab_in facts moment root tab
+
+-- the tab lives
+abbrev pub check_live : ℕ → KnownTab → Result (Unit {0}) Refusal
+check_live moment known = if tab_is_live moment known.opening then Ok tt else Err TabExpired
+
+-- the tab that the ask is about
+unfoldable pub check_tab : List Fact → ℕ → Option RootKey → TabKey → Result KnownTab Refusal
+check_tab facts moment root tab = do
+  known ← check_known facts moment root tab
+  live ← check_live moment known
+  Ok known
 
 abbrev pub user_of : Option RootSession → Option UserId
 user_of None = None

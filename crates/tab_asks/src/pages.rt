@@ -1,6 +1,6 @@
-ghost use Rattle.std.specs.Prelude.{◌≡◌, ◌-◌, ◌^◌, IfOk};
+ghost use Rattle.std.specs.Prelude.{◌≡◌, ◌-◌, ◌^◌, ◌++◌, IfOk, OnOk};
 ghost use Rattle.hall_answers.specs.HasSerials.{HasSerials};
-ghost use Rattle.tab_asks.specs.Pages.{page_fact, form_page, session_for, session_fact, completion, progress_answer, tab_answer, visit_answer, due_page};
+ghost use Rattle.tab_asks.specs.Pages.{page_fact, form_page, session_for, beginning, levels_recorded, seen_now, completion_facts, completion, progress_answer, tab_answer, visit_answer, due_page};
 
 use crate::visit::{check_tab, check_visit};
 use facts::{Fact, Facts, Need, RootSession, What};
@@ -48,56 +48,109 @@ fn session_for(facts: &Facts<'_>, setting: &Setting<'_>, live: &Option<RootSessi
     }
 }
 
-/// A live session is seen, and a new one begins.
-fn session_fact(
+/// Adds the beginning of a session where none is live.
+fn add_beginning(
     setting: &Setting<'_>,
     session: SessionId,
     root: RootKey,
     user: UserId,
-    is_live: bool,
-) -> Fact
-    ensures { result ≡ session_fact setting.now session root user is_live }
+    live: &Option<RootSession>,
+    added: &mut Sequence<Fact>,
+) -> Result<(), Memory>
+    ensures { OnOk result (added.new ≡ added.old ++ beginning setting.now session root user live.now) }
 {
+    if live.is_some() {
+        return Ok(());
+    }
     let limits = setting.realm.parts().session;
-    if is_live {
-        Fact::Seen {
+    added.push(Fact::Session {
+        session,
+        root: Some(root),
+        user,
+        moment: setting.moment,
+        idle: limits.idle,
+        max: limits.max,
+    })
+}
+
+/// Adds that the session has reached these levels.
+fn add_levels(
+    setting: &Setting<'_>,
+    session: SessionId,
+    levels: &[u32],
+    added: &mut Sequence<Fact>,
+) -> Result<(), Memory>
+    ensures { OnOk result (added.new ≡ added.old ++ levels_recorded setting.now session levels.now) }
+{
+    let moment = setting.moment;
+    for level in levels {
+        added.push(Fact::Level {
             session,
+            level: *level,
+            moment,
+        })?;
+    }
+    Ok(())
+}
+
+/// Adds the use of a live session.
+pub(crate) fn add_seen(
+    setting: &Setting<'_>,
+    live: &Option<RootSession>,
+    added: &mut Sequence<Fact>,
+) -> Result<(), Memory>
+    ensures { OnOk result (added.new ≡ added.old ++ seen_now setting.now live.now) }
+{
+    match live {
+        Some(own) => added.push(Fact::Seen {
+            session: own.session,
             moment: setting.moment,
-        }
-    } else {
-        Fact::Session {
-            session,
-            root: Some(root),
-            user,
-            moment: setting.moment,
-            idle: limits.idle,
-            max: limits.max,
-        }
+        }),
+        None => Ok(()),
     }
 }
 
-/// The login completes.
-#[tactic(auto, unfolding(crate::specs::Pages::completion))]
-fn completion<L: Ledger>(
-    facts: &Facts<'_>,
+/// What a completion adds.
+fn completion_facts(
     setting: &Setting<'_>,
     known: &KnownTab,
     user: UserId,
-    steps: &mut Steps<L>,
-) -> Result<Answer, Memory>
-    requires serials { HasSerials facts.now (2 ^ 63) }
-    ensures { IfOk result (λ answer. answer ≡ completion facts.now setting.now known.now user) }
+    levels: &[u32],
+    session: SessionId,
+    live: &Option<RootSession>,
+) -> Result<Sequence<Fact>, Memory>
+    ensures { IfOk result (λ added. added ≡
+        completion_facts setting.now known.now user levels.now session live.now) }
 {
-    let live = known.state.live_session(setting.moment);
-    let session = session_for(facts, setting, &live);
     let mut added = Sequence::new(setting.alloc);
-    added.push(session_fact(setting, session, known.root, user, live.is_some()))?;
+    add_beginning(setting, session, known.root, user, live, &mut added)?;
+    add_levels(setting, session, levels, &mut added)?;
+    add_seen(setting, live, &mut added)?;
     added.push(Fact::Completed {
         tab: known.tab,
         user,
         session,
         moment: setting.moment,
     })?;
+    Ok(added)
+}
+
+/// The login completes, and records these levels.
+#[tactic(auto, unfolding(crate::specs::Pages::completion))]
+fn completion<L: Ledger>(
+    facts: &Facts<'_>,
+    setting: &Setting<'_>,
+    known: &KnownTab,
+    user: UserId,
+    levels: &[u32],
+    steps: &mut Steps<L>,
+) -> Result<Answer, Memory>
+    requires serials { HasSerials facts.now (2 ^ 63) }
+    ensures { IfOk result (λ answer. answer ≡ completion facts.now setting.now known.now user levels.now) }
+{
+    let live = known.state.live_session(setting.moment);
+    let session = session_for(facts, setting, &live);
+    let added = completion_facts(setting, known, user, levels, session, &live)?;
     let what = What::Done {
         session,
         user: who_named(setting.alloc, facts, user, steps)?,
@@ -119,11 +172,14 @@ fn progress_answer<L: Ledger>(
     ensures { IfOk result (λ answer. answer ≡ progress_answer facts.now setting.now known.now progress) }
 {
     let what = match progress {
-        Progress::Ready { user } => return completion(facts, setting, known, user, steps),
+        Progress::Ready { user, levels } => {
+            return completion(facts, setting, known, user, levels.as_slice(), steps);
+        }
         Progress::Asked { asked } => return form_page(facts, setting, known.tab, asked),
         Progress::Denied { execution } => What::Denied { execution },
         Progress::NotConfigured { execution } => What::NotConfigured { execution },
         Progress::DeadEnd => What::DeadEnd,
+        Progress::LevelMissed { level } => What::LevelMissed { level },
     };
     Ok(Answer::only(setting.alloc, Some(known.tab), what))
 }
@@ -172,7 +228,7 @@ pub fn due_page<L: Ledger>(
     ensures ok { IfOk result (λ answer. answer ≡ due_page setting.now root.now tab) }
 {
     let facts = setting.facts();
-    match check_tab(&facts, root, tab, steps) {
+    match check_tab(&facts, setting.moment, root, tab, steps) {
         Ok(known) => visit_answer(&facts, setting, &known, steps),
         Err(refusal) => refused(setting.alloc, &facts, None, refusal, steps),
     }

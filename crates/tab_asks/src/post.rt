@@ -461,7 +461,7 @@ pub fn due_post<L: Ledger>(
     ensures ok { IfOk result (λ answer. answer ≡ due_post setting.now post.now finding.now) }
 {
     let facts = setting.facts();
-    match check_tab(&facts, &post.root, post.tab, steps) {
+    match check_tab(&facts, setting.moment, &post.root, post.tab, steps) {
         Ok(known) => post_in(setting, post, finding, &known, steps),
         Err(refusal) => refused(setting.alloc, &facts, None, refusal, steps),
     }

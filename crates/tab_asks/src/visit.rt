@@ -1,6 +1,6 @@
 ghost use Rattle.std.specs.Prelude.{◌≡◌, IfOk};
 ghost use Rattle.facts.specs.Tabs.{tab_state};
-ghost use Rattle.tab_asks.specs.Visit.{tab_in, check_tab, user_of, same_user, check_whole, check_unfinished, check_unlocked, check_account, check_visit};
+ghost use Rattle.tab_asks.specs.Visit.{tab_in, check_known, check_live, check_tab, user_of, same_user, check_whole, check_unfinished, check_unlocked, check_account, check_visit};
 
 use account_states::state_of;
 use fact_scans::tab_state;
@@ -11,44 +11,75 @@ use login_base::{Moment, RootKey, Steps, TabKey, UserId};
 use login_progress::KnownTab;
 use std::sync::ledger::Ledger;
 
+/// A tab of a root that isn't forgotten at the moment.
 #[tactic(auto, unfolding(crate::specs::Visit::tab_in))]
 fn tab_in<L: Ledger>(
     facts: &Facts<'_>,
+    moment: Moment,
     root: RootKey,
     tab: TabKey,
     steps: &mut Steps<L>,
 ) -> Result<KnownTab, Refusal>
-    ensures known { result ≡ tab_in facts.now root tab }
+    ensures known { result ≡ tab_in facts.now moment root tab }
     ensures state { IfOk result (λ known. known.state ≡ tab_state known.root known.tab facts.now) }
 {
     let state = tab_state(facts, root, tab, steps);
     let opening = state.opening;
     match opening {
-        Some(opening) => Ok(KnownTab {
+        Some(opening) if opening.is_known(moment) => Ok(KnownTab {
             root,
             tab,
             opening,
             state,
         }),
-        None => Err(Refusal::UnknownTab),
+        _ => Err(Refusal::UnknownTab),
     }
 }
 
-/// A root is given, and it has the tab.
-#[tactic(auto, unfolding(crate::specs::Visit::check_tab))]
-pub(crate) fn check_tab<L: Ledger>(
+/// A root is given, and it has the tab, which is known.
+#[tactic(auto, unfolding(crate::specs::Visit::check_known))]
+fn check_known<L: Ledger>(
     facts: &Facts<'_>,
+    moment: Moment,
     root: &Option<RootKey>,
     tab: TabKey,
     steps: &mut Steps<L>,
 ) -> Result<KnownTab, Refusal>
-    ensures known { result ≡ check_tab facts.now root.now tab }
+    ensures known { result ≡ check_known facts.now moment root.now tab }
     ensures state { IfOk result (λ known. known.state ≡ tab_state known.root known.tab facts.now) }
 {
     match root {
-        Some(root) => tab_in(facts, *root, tab, steps),
+        Some(root) => tab_in(facts, moment, *root, tab, steps),
         None => Err(Refusal::UnknownTab),
     }
+}
+
+/// The tab lives.
+fn check_live(moment: Moment, known: &KnownTab) -> Result<(), Refusal>
+    ensures { result ≡ check_live moment known.now }
+{
+    if known.opening.is_live(moment) {
+        Ok(())
+    } else {
+        Err(Refusal::TabExpired)
+    }
+}
+
+/// The tab that an ask is about.
+#[tactic(auto, unfolding(crate::specs::Visit::check_tab))]
+pub(crate) fn check_tab<L: Ledger>(
+    facts: &Facts<'_>,
+    moment: Moment,
+    root: &Option<RootKey>,
+    tab: TabKey,
+    steps: &mut Steps<L>,
+) -> Result<KnownTab, Refusal>
+    ensures known { result ≡ check_tab facts.now moment root.now tab }
+    ensures state { IfOk result (λ known. known.state ≡ tab_state known.root known.tab facts.now) }
+{
+    let known = check_known(facts, moment, root, tab, steps)?;
+    check_live(moment, &known)?;
+    Ok(known)
 }
 
 pub(crate) fn user_of(session: Option<RootSession>) -> Option<UserId>
