@@ -1,6 +1,8 @@
 -- How far the asks of administrators lift the counters.
-use Rattle.std.proofs.Common.{◌≡◌, ℕ, ◌+◌, List, [], ◌∷◌, Option, Some, None, refl, ap, sym, arith, true}
-use Rattle.std.specs.Prelude.{Result, Ok, Err}
+use Rattle.std.proofs.Common.{◌≡◌, ℕ, ◌+◌, ◌≤◌, Bool, true, false, nat_le, List, [], ◌∷◌, map, Option, Some, None, refl, ap, sym, subst, arith}
+use Rattle.std.specs.Prelude.{Result, Ok, Err, fold, if◌then◌else◌}
+use Rattle.std.proofs.lemmas.Bool.{leb-true}
+use Rattle.login_base.specs.declared.id.SessionId.{SessionId}
 use Rattle.login_base.specs.declared.id.UserId.{UserId}
 use Rattle.asks.specs.declared.admin.AdminVerb.{AdminVerb}
 use Rattle.asks.specs.declared.admin.AdminVerb.TheVariants as verbs
@@ -9,13 +11,14 @@ use Rattle.asks.specs.declared.ask.Access.{Access}
 use Rattle.facts.specs.declared.fact.Fact.{Fact}
 use Rattle.asks.specs.declared.finding.Finding.{Finding}
 use Rattle.asks.specs.declared.finding.Finding.TheVariants as findings
-use Rattle.facts.specs.Serials.{last_stored_serial}
+use Rattle.facts.specs.Serials.{last_tab_serial, last_stored_serial, tab_serial_after, stored_serial_after}
 use Rattle.hall_answers.specs.declared.refusal.Refusal.{Refusal}
+use Rattle.hall_answers.specs.declared.refusal.Refusal.TheVariants.{NoSuchUser}
 use Rattle.hall_answers.specs.Refusals.{◌>>=◌, settled}
 use Rattle.hall_answers.specs.Setting.{Setting}
 use Rattle.hall_answers.proofs.Lifts.{Lifts, lifts, nothing, Raising, raising}
-use Rattle.facts.specs.declared.fact.Fact.TheVariants.{RealmPut}
-use Rattle.facts.specs.Realms.{last_version}
+use Rattle.facts.specs.declared.fact.Fact.TheVariants.{RealmPut, SessionEnd}
+use Rattle.facts.specs.Realms.{last_version, version_after}
 use Rattle.facts.proofs.InForce.{last_version_more}
 use Rattle.facts.proofs.SerialLemmas.{last_tab_serial_more, last_stored_serial_more}
 use Rattle.realm_data.specs.declared.realm_parts.RealmParts.{RealmParts}
@@ -27,7 +30,9 @@ use Rattle.admin_asks.specs.Passwords.{derived}
 use Rattle.admin_asks.specs.RealmPut.{check_realm, answer_to_realm, due_realm_put}
 use Rattle.admin_asks.specs.Admin.{check_key, due_verb, verb_with, due_admin}
 use Rattle.admin_asks.specs.Closing.{answer_to_enable, answer_to_disable, due_enable, due_disable, check_open, due_unlock}
+use Rattle.admin_asks.specs.Ending.{check_session, answer_to_revoke, due_revoke, outlived_ids, answer_to_sweep, due_sweep}
 use Rattle.admin_asks.specs.Named.{check_user}
+use Rattle.admin_asks.specs.Roles.{answer_to_roles, if_made, check_made, due_roles}
 use Rattle.admin_asks.specs.SetPassword.{answer_to_set_password, due_set_password}
 use Rattle.admin_asks.specs.UserAdd.{check_built, check_name_free, check_room, check_new_user, answer_to_new_user, due_user_add}
 
@@ -99,8 +104,49 @@ disable_lifts : (setting : Setting) (name : List ℕ) (user : Result UserId Refu
 disable_lifts setting name (Ok user) = lifts 3 setting.facts _ (omega arith) (omega arith) refl
 disable_lifts setting name (Err refusal) = nothing 3 setting.facts
 
+-- roles and the ends of sessions take none
+put_lifts : (facts : List Fact) (name : List ℕ) (roles : List (List ℕ)) (user : UserId) → user.0 ≤ last_stored_serial facts → Lifts 3 facts (answer_to_roles name roles user).added
+put_lifts facts name roles user made = lifts 3 facts _ (omega arith) (omega (arith, made)) refl
+
+made_user : (facts : List Fact) (found : Result UserId Refusal) (user : UserId) → (found >>= if_made facts) ≡ Ok user → user.0 ≤ last_stored_serial facts
+made_user facts (Ok x) user h = by_test (nat_le x.0 (last_stored_serial facts)) refl h
+  where
+    by_test : (made : Bool) → nat_le x.0 (last_stored_serial facts) ≡ made → ◌≡◌ {A = Result UserId Refusal} (if made then Ok x else Err NoSuchUser) (Ok user) → user.0 ≤ last_stored_serial facts
+    by_test true made h = let e : ◌≡◌ {A = UserId} x user = cc in subst (λ (u : UserId). u.0 ≤ last_stored_serial facts) e (leb-true _ _ made)
+    by_test false made h = absurd cc
+made_user facts (Err refusal) user h = absurd cc
+
+roles_lift : (setting : Setting) (name : List ℕ) (roles : List (List ℕ)) (user : Result UserId Refusal) → check_made setting.facts name ≡ user
+    → Lifts 3 setting.facts (settled setting.facts None (answer_to_roles name roles) user).added
+unfolding check_made
+roles_lift setting name roles (Ok user) h = put_lifts setting.facts name roles user (made_user setting.facts (check_user setting.facts name) user h)
+roles_lift setting name roles (Err refusal) h = nothing 3 setting.facts
+
+revoke_lifts : (setting : Setting) (session : SessionId) (there : Result (Unit {0}) Refusal)
+    → Lifts 3 setting.facts (settled setting.facts None (answer_to_revoke session) there).added
+revoke_lifts setting session (Ok there) = lifts 3 setting.facts _ (omega arith) (omega arith) refl
+revoke_lifts setting session (Err refusal) = nothing 3 setting.facts
+
+tabs_end : (n : ℕ) (ended : List SessionId) → fold tab_serial_after n (map SessionEnd ended) ≡ n
+tabs_end n [] = refl
+tabs_end n (session ∷ ended) = tabs_end n ended
+
+stored_end : (n : ℕ) (ended : List SessionId) → fold stored_serial_after n (map SessionEnd ended) ≡ n
+stored_end n [] = refl
+stored_end n (session ∷ ended) = stored_end n ended
+
+version_ends : (n : ℕ) (ended : List SessionId) → fold version_after n (map SessionEnd ended) ≡ n
+version_ends n [] = refl
+version_ends n (session ∷ ended) = version_ends n ended
+
+sweep_lifts : (facts : List Fact) (ended : List SessionId) → Lifts 3 facts (answer_to_sweep ended).added
+sweep_lifts facts ended =
+    let t = tabs_end (last_tab_serial facts) ended in
+    let s = stored_end (last_stored_serial facts) ended in
+    lifts 3 facts _ (omega (arith, t)) (omega (arith, s)) (version_ends (last_version facts) ended)
+
 verb_raises : (setting : Setting) (verb : AdminVerb) (finding : Finding) → Raising 3 setting.facts (due_verb setting verb finding).added
-unfolding due_user_add due_realm_put due_set_password due_otp_set due_otp_remove due_enable due_disable due_unlock
+unfolding due_user_add due_realm_put due_set_password due_otp_set due_otp_remove due_enable due_disable due_unlock due_roles due_revoke due_sweep
 verb_raises setting (verbs.UserAdd new) finding = raising 3 setting.facts _ (new_user_lifts setting new finding (check_new_user setting.facts new) refl)
 verb_raises setting (verbs.RealmPut realm) finding = realm_raises setting (check_realm realm)
 verb_raises setting (verbs.SetPassword name password) finding =
@@ -115,6 +161,11 @@ verb_raises setting (verbs.Disable name) finding =
     raising 3 setting.facts _ (disable_lifts setting name (check_user setting.facts name))
 verb_raises setting (verbs.Unlock name) finding =
     raising 3 setting.facts _ (enable_lifts setting name (check_open setting.facts name))
+verb_raises setting (verbs.Roles name roles) finding =
+    raising 3 setting.facts _ (roles_lift setting name roles (check_made setting.facts name) refl)
+verb_raises setting (verbs.Revoke session) finding =
+    raising 3 setting.facts _ (revoke_lifts setting session (check_session setting.facts session))
+verb_raises setting verbs.Sweep finding = raising 3 setting.facts _ (sweep_lifts setting.facts (outlived_ids setting.moment setting.facts))
 verb_raises setting verb finding = raising 3 setting.facts [] (nothing 3 setting.facts)
 
 key_raises : (setting : Setting) (verb : AdminVerb) (finding : Finding) (key : Result (Unit {0}) Refusal) → Raising 3 setting.facts (settled setting.facts None (verb_with setting verb finding) key).added

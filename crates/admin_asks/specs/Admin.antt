@@ -13,9 +13,11 @@ use Rattle.hall_answers.specs.declared.refusal.Refusal.TheVariants.{NotBuilt, Wr
 use Rattle.hall_answers.specs.Refusals.{refused, settled}
 use Rattle.hall_answers.specs.Setting.{Setting}
 use Rattle.admin_asks.specs.Closing.{due_enable, due_disable, due_unlock}
+use Rattle.admin_asks.specs.Ending.{due_revoke, due_sweep}
 use Rattle.admin_asks.specs.OtpRemove.{due_otp_remove}
 use Rattle.admin_asks.specs.OtpSet.{due_otp_set}
 use Rattle.admin_asks.specs.RealmPut.{due_realm_put}
+use Rattle.admin_asks.specs.Roles.{due_roles}
 use Rattle.admin_asks.specs.SetPassword.{due_set_password}
 use Rattle.admin_asks.specs.UserAdd.{due_user_add}
 
@@ -31,7 +33,7 @@ not_built setting = refused setting.facts None NotBuilt
 abbrev pub due_verb : Setting → AdminVerb → Finding → Answer
 due_verb setting (verbs.RealmPut realm) finding = due_realm_put setting realm
 due_verb setting (verbs.UserAdd new) finding = due_user_add setting new finding
-due_verb setting (verbs.Roles name roles) finding = not_built setting
+due_verb setting (verbs.Roles name roles) finding = due_roles setting name roles
 due_verb setting (verbs.SetPassword name password) finding = due_set_password setting name finding
 due_verb setting (verbs.OtpSet name secret) finding = due_otp_set setting name secret
 due_verb setting (verbs.OtpRemove name) finding = due_otp_remove setting name
@@ -40,8 +42,8 @@ due_verb setting (verbs.Enable name) finding = due_enable setting name
 due_verb setting (verbs.Disable name) finding = due_disable setting name
 due_verb setting (verbs.Unlock name) finding = due_unlock setting name
 due_verb setting (verbs.Token name action life) finding = not_built setting
-due_verb setting (verbs.Revoke session) finding = not_built setting
-due_verb setting verbs.Sweep finding = not_built setting
+due_verb setting (verbs.Revoke session) finding = due_revoke setting session
+due_verb setting verbs.Sweep finding = due_sweep setting
 
 abbrev pub verb_with : Setting → AdminVerb → Finding → Unit {0} → Answer
 verb_with setting verb finding key = due_verb setting verb finding

@@ -1,10 +1,12 @@
 pub mod Account
 pub mod Admin
 pub mod Closing
+pub mod Ending
 pub mod Named
 pub mod OtpRemove
 pub mod OtpSet
 pub mod Passwords
 pub mod RealmPut
+pub mod Roles
 pub mod SetPassword
 pub mod UserAdd

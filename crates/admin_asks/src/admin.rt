@@ -4,9 +4,11 @@ ghost use Rattle.admin_asks.specs.Admin.{check_key, due_verb, due_admin};
 ghost use Rattle.admin_asks.specs.Passwords.{IsKeepable};
 
 use crate::closing::{due_disable, due_enable, due_unlock};
+use crate::ending::{due_revoke, due_sweep};
 use crate::otp_remove::due_otp_remove;
 use crate::otp_set::due_otp_set;
 use crate::realm_put::due_realm_put;
+use crate::roles::due_roles;
 use crate::set_password::due_set_password;
 use crate::user_add::due_user_add;
 use facts::{Access, AdminVerb, Finding, Realm};
@@ -44,11 +46,10 @@ fn due_verb<L: Ledger>(
         AdminVerb::Enable { name } => due_enable(setting, name, steps),
         AdminVerb::Disable { name } => due_disable(setting, name, steps),
         AdminVerb::Unlock { name } => due_unlock(setting, name, steps),
-        AdminVerb::Roles { .. }
-        | AdminVerb::Require { .. }
-        | AdminVerb::Token { .. }
-        | AdminVerb::Revoke { .. }
-        | AdminVerb::Sweep => {
+        AdminVerb::Roles { name, roles } => due_roles(setting, name, roles, steps),
+        AdminVerb::Revoke { session } => due_revoke(setting, *session, steps),
+        AdminVerb::Sweep => due_sweep(setting, steps),
+        AdminVerb::Require { .. } | AdminVerb::Token { .. } => {
             refused(
                 setting.alloc,
                 &setting.facts(),
