@@ -8,7 +8,7 @@ use Rattle.asks.specs.Solved.{SolvedAsk}
 use Rattle.hall_answers.specs.Setting.{Setting, setting_at}
 use Rattle.login_base.specs.declared.draws.Draws.{Draws}
 use Rattle.hall_answers.proofs.Lifts.{Lifts, nothing, Raising}
-use Rattle.tab_asks.proofs.SerialLemmas.{new_tab_lifts, page_lifts, post_lifts}
+use Rattle.tab_asks.proofs.SerialLemmas.{new_tab_lifts, page_lifts, post_lifts, logout_lifts}
 use Rattle.admin_asks.proofs.SerialLemmas.{admin_raises}
 use Rattle.login_hall.specs.Due.{due, due_ask}
 use Rattle.login_hall.specs.Legal.{Raises}
@@ -27,7 +27,7 @@ raises setting (asks.Page root tab) finding = raised 1 setting.facts _ (omega ar
 raises setting (asks.Post post) finding = raised 1 setting.facts _ (omega arith) (post_lifts setting post finding)
 raises setting (asks.Verify key) finding = raised 0 setting.facts _ (omega arith) (nothing 0 setting.facts)
 raises setting (asks.Reset key password) finding = raised 0 setting.facts _ (omega arith) (nothing 0 setting.facts)
-raises setting (asks.Logout root) finding = raised 0 setting.facts _ (omega arith) (nothing 0 setting.facts)
+raises setting (asks.Logout root) finding = raised 0 setting.facts _ (omega arith) (logout_lifts setting root)
 raises setting (asks.Admin access verb) finding = raised_with_version 3 setting.facts _ (omega arith) (admin_raises setting access verb finding)
 
 pub raises_at : (facts : List Fact) (solved : SolvedAsk) (moment : ℕ) (draws : Draws) → Raises facts (facts ++ (due facts solved moment draws).added)

@@ -10,6 +10,7 @@ use Rattle.asks.specs.Solved.{SolvedAsk}
 use Rattle.hall_answers.specs.declared.answer.Answer.{Answer}
 use Rattle.hall_answers.specs.Answers.{only}
 use Rattle.hall_answers.specs.Setting.{Setting, setting_at}
+use Rattle.tab_asks.specs.Logout.{due_logout}
 use Rattle.tab_asks.specs.NewTab.{due_new_tab}
 use Rattle.tab_asks.specs.Pages.{due_page}
 use Rattle.tab_asks.specs.Post.{due_post}
@@ -23,7 +24,7 @@ due_ask setting (asks.Page root tab) finding = due_page setting root tab
 due_ask setting (asks.Post post) finding = due_post setting post finding
 due_ask setting (asks.Verify key) finding = not_built setting
 due_ask setting (asks.Reset key password) finding = not_built setting
-due_ask setting (asks.Logout root) finding = not_built setting
+due_ask setting (asks.Logout root) finding = due_logout setting root
 due_ask setting (asks.Admin access verb) finding = due_admin setting access verb finding
 
 abbrev pub due : List Fact → SolvedAsk → ℕ → Draws → Answer

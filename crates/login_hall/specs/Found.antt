@@ -1,5 +1,5 @@
 -- What the check of a password finds.
-use Rattle.std.specs.Prelude.{◌≡◌, ℕ, Bool, true, List, ◌++◌, Option, Some, None, slice_index, false}
+use Rattle.std.specs.Prelude.{◌≡◌, ℕ, Bool, true, List, ◌++◌, Option, Some, None, slice_index, false, if◌then◌else◌}
 use Rattle.std.specs.Int.{w64, to_be_bytes}
 use Rattle.std.specs.Str.{bytes_eq}
 use Rattle.login_base.specs.declared.id.RootKey.{RootKey}
@@ -20,7 +20,7 @@ use Rattle.facts.specs.declared.tabs.TabState.{TabState}
 use Rattle.realm_data.specs.PasswordHash.{is_iterations}
 use Rattle.asks.specs.Passwords.{password_use, password_text, emptied}
 use Rattle.asks.specs.Solved.{SolvedAsk}
-use Rattle.facts.specs.Tabs.{tab_state, who_of}
+use Rattle.facts.specs.Tabs.{tab_state, tab_is_known, who_of}
 use Rattle.mac_kit.specs.Pbkdf2.{pbkdf2_sha256}
 use Rattle.hall_answers.specs.Setting.{realm_now}
 use Rattle.login_progress.specs.PasswordFor.{password_for}
@@ -32,10 +32,10 @@ use Rattle.login_hall.specs.declared.task.Task.TheVariants as tasks
 abbrev pub salt_of : Draws → List ℕ
 salt_of draws = to_be_bytes w64 (slice_index draws.0 8) ++ to_be_bytes w64 (slice_index draws.0 9)
 
--- whose login it is in a tab of a root at a moment, where the root has the tab
+-- whose login it is in a tab of a root at a moment, where the root has the tab, which is known
 abbrev pub who_among : ℕ → TabState → Option Opening → Option UserId
 who_among moment state None = None
-who_among moment state (Some opening) = who_of moment state
+who_among moment state (Some opening) = if tab_is_known moment opening then who_of moment state else None
 
 abbrev pub who_in : List Fact → ℕ → Option RootKey → TabKey → Option UserId
 who_in chronicle moment None tab = None

@@ -10,7 +10,7 @@ use hall_answers::{Answer, Refusal, Setting, refused};
 use login_base::{Duplicate, Memory, Name, Steps};
 use std::alloc::Global;
 use std::sync::ledger::Ledger;
-use tab_asks::{due_new_tab, due_page, due_post};
+use tab_asks::{due_logout, due_new_tab, due_page, due_post};
 
 /// What a malformed ask is due.
 fn due_bad(alloc: Global, at: &Name) -> Result<Answer, Memory>
@@ -36,7 +36,8 @@ pub(crate) fn due<L: Ledger>(
         Ask::Page { root, tab } => due_page(setting, root, *tab, steps),
         Ask::Post(post) => due_post(setting, post, finding, steps),
         Ask::Admin { access, verb } => due_admin(setting, access, verb, finding, steps),
-        Ask::Verify { .. } | Ask::Reset { .. } | Ask::Logout { .. } => {
+        Ask::Logout { root } => due_logout(setting, root, steps),
+        Ask::Verify { .. } | Ask::Reset { .. } => {
             refused(
                 setting.alloc,
                 &setting.facts(),

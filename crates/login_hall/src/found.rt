@@ -34,7 +34,7 @@ fn salt_of(draws: &Draws) -> [u8; 16]
     salt
 }
 
-/// Whose login it is in a tab of a root at a moment, where the root has the tab.
+/// Whose login it is in a tab of a root at a moment, where the root has the tab, which is known.
 fn who_in<L: Ledger>(
     facts: &Facts<'_>,
     moment: Moment,
@@ -48,9 +48,10 @@ fn who_in<L: Ledger>(
         return None;
     };
     let state = tab_state(facts, *root, tab, steps);
-    match state.opening {
-        Some(_) => state.who(moment),
-        None => None,
+    let opening = state.opening;
+    match opening {
+        Some(opening) if opening.is_known(moment) => state.who(moment),
+        _ => None,
     }
 }
 

@@ -5,20 +5,20 @@ use crate::sample_hall::{ANN, Asked, is_answered_twice, is_refused_twice};
 use crate::sample_realms::PLAIN;
 use std::test::Fail;
 
-/// What isn't built is refused before an unknown client and a taken name, and an administrator's
-/// key is looked at before both.
-const UNBUILT: [Asked; 6] = [
+/// An unknown client is told before a root and a level that aren't there, what isn't built before a
+/// taken name, and a wrong key before both.
+const FIRST: [Asked; 6] = [
     (
         PLAIN,
         &[],
         Line::Open("shop", Some(1), None),
-        "1 BadForm at=verb",
+        "3 UnknownClient",
     ),
     (
         PLAIN,
         &[],
         Line::Open("shop", None, Some("high")),
-        "1 BadForm at=verb",
+        "3 UnknownClient",
     ),
     (
         PLAIN,
@@ -58,8 +58,8 @@ refused 2 AdminRefused rule=UserTaken
 );
 
 #[test]
-fn what_is_not_built_is_refused_in_its_place(rt: HostRuntime) -> Result<(), Fail> {
-    for case in UNBUILT {
+fn the_first_rule_that_is_broken_is_told(rt: HostRuntime) -> Result<(), Fail> {
+    for case in FIRST {
         is_refused_twice(&rt, rt.alloc(), case)?;
     }
     Ok(())

@@ -1,5 +1,5 @@
 -- What can be asked so far.
-use Rattle.std.specs.Prelude.{ℕ, Bool, true, false, List, [], ◌∷◌, Option, Some, None, is_some, if◌then◌else◌}
+use Rattle.std.specs.Prelude.{ℕ, Bool, true, false, List, [], ◌∷◌, Option, Some, None, if◌then◌else◌}
 use Rattle.asks.specs.declared.admin.AdminVerb.{AdminVerb}
 use Rattle.asks.specs.declared.admin.AdminVerb.TheVariants as verbs
 use Rattle.asks.specs.declared.admin.NewUser.{NewUser}
@@ -7,16 +7,11 @@ use Rattle.asks.specs.declared.ask.Ask.{Ask}
 use Rattle.asks.specs.declared.ask.Ask.TheVariants as asks
 use Rattle.asks.specs.declared.ask.Form.{Form}
 use Rattle.asks.specs.declared.ask.Form.TheVariants as forms
-use Rattle.asks.specs.declared.ask.NewTab.{NewTab}
 use Rattle.ask_pairs.specs.declared.pairs.Pair.{Pair}
 use Rattle.ask_pairs.specs.declared.place.Place.{Place}
 use Rattle.ask_pairs.specs.declared.place.Place.TheVariants as places
 use Rattle.ask_pairs.specs.Asks.{ask_of_pairs}
 use Rattle.ask_pairs.specs.Places.{place_text}
-
--- neither a level nor a root can be asked yet
-abbrev pub unbuilt_new_tab : NewTab → Option Place
-unbuilt_new_tab new = if is_some new.acr then Some places.Acr else if is_some new.root then Some places.Root else None
 
 -- no action is asked yet
 abbrev pub unbuilt_form : Form → Option Place
@@ -34,14 +29,14 @@ abbrev pub has_some : {A : Type 0} → List A → Bool
 has_some [] = false
 has_some (x ∷ xs) = true
 
--- a user can be given neither roles nor actions yet
+-- a user can be given no actions yet
 abbrev pub unbuilt_user : NewUser → Option Place
-unbuilt_user new = if has_some new.roles then Some places.Roles else if has_some new.actions then Some places.Actions else None
+unbuilt_user new = if has_some new.actions then Some places.Actions else None
 
 abbrev pub unbuilt_verb : AdminVerb → Option Place
 unbuilt_verb (verbs.RealmPut realm) = None
 unbuilt_verb (verbs.UserAdd new) = unbuilt_user new
-unbuilt_verb (verbs.Roles name roles) = Some places.Verb
+unbuilt_verb (verbs.Roles name roles) = None
 unbuilt_verb (verbs.SetPassword name password) = None
 unbuilt_verb (verbs.OtpSet name secret) = None
 unbuilt_verb (verbs.OtpRemove name) = None
@@ -50,18 +45,18 @@ unbuilt_verb (verbs.Enable name) = None
 unbuilt_verb (verbs.Disable name) = None
 unbuilt_verb (verbs.Unlock name) = None
 unbuilt_verb (verbs.Token name action life) = Some places.Verb
-unbuilt_verb (verbs.Revoke session) = Some places.Verb
-unbuilt_verb verbs.Sweep = Some places.Verb
+unbuilt_verb (verbs.Revoke session) = None
+unbuilt_verb verbs.Sweep = None
 
 -- the place of the first part of an ask that isn't built yet
 abbrev pub unbuilt : Ask → Option Place
 unbuilt (asks.Bad at) = None
-unbuilt (asks.NewTab new) = unbuilt_new_tab new
+unbuilt (asks.NewTab new) = None
 unbuilt (asks.Page root tab) = None
 unbuilt (asks.Post post) = unbuilt_form post.form
 unbuilt (asks.Verify key) = Some places.Verb
 unbuilt (asks.Reset key password) = Some places.Verb
-unbuilt (asks.Logout root) = Some places.Verb
+unbuilt (asks.Logout root) = None
 unbuilt (asks.Admin access verb) = unbuilt_verb verb
 
 abbrev pub built_at : Option Place → Ask → Ask

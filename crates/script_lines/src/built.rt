@@ -2,25 +2,12 @@
 ghost use Rattle.std.specs.Prelude.{◌≡◌, IfOk};
 ghost use Rattle.asks.specs.declared.ask.Ask.TheVariants as asks;
 ghost use Rattle.ask_pairs.specs.Places.{place_text};
-ghost use Rattle.script_lines.specs.Built.{unbuilt_new_tab, unbuilt_form, unbuilt_user, unbuilt_verb, unbuilt, built_ask, verb_ask};
+ghost use Rattle.script_lines.specs.Built.{unbuilt_form, unbuilt_user, unbuilt_verb, unbuilt, built_ask, verb_ask};
 
 use ask_pairs::{Pair, Place, ask_of};
-use asks::{AdminVerb, Ask, Form, NewTab, NewUser};
+use asks::{AdminVerb, Ask, Form, NewUser};
 use login_base::{Memory, Name, discard};
 use std::alloc::Global;
-
-/// Neither a level nor a root can be asked yet.
-fn unbuilt_new_tab(new: &NewTab) -> Option<Place>
-    ensures { result ≡ unbuilt_new_tab new.now }
-{
-    if new.acr.is_some() {
-        Some(Place::Acr)
-    } else if new.root.is_some() {
-        Some(Place::Root)
-    } else {
-        None
-    }
-}
 
 /// No action is asked yet.
 fn unbuilt_form(form: &Form) -> Option<Place>
@@ -39,13 +26,11 @@ fn unbuilt_form(form: &Form) -> Option<Place>
     }
 }
 
-/// A user can be given neither roles nor actions yet.
+/// A user can be given no actions yet.
 fn unbuilt_user(new: &NewUser) -> Option<Place>
     ensures { result ≡ unbuilt_user new.now }
 {
-    if !new.roles.is_empty() {
-        Some(Place::Roles)
-    } else if !new.actions.is_empty() {
+    if !new.actions.is_empty() {
         Some(Place::Actions)
     } else {
         None
@@ -58,17 +43,16 @@ fn unbuilt_verb(verb: &AdminVerb) -> Option<Place>
     match verb {
         AdminVerb::UserAdd(new) => unbuilt_user(new),
         AdminVerb::RealmPut { .. }
+        | AdminVerb::Roles { .. }
         | AdminVerb::SetPassword { .. }
         | AdminVerb::OtpSet { .. }
         | AdminVerb::OtpRemove { .. }
         | AdminVerb::Enable { .. }
         | AdminVerb::Disable { .. }
-        | AdminVerb::Unlock { .. } => None,
-        AdminVerb::Roles { .. }
-        | AdminVerb::Require { .. }
-        | AdminVerb::Token { .. }
+        | AdminVerb::Unlock { .. }
         | AdminVerb::Revoke { .. }
-        | AdminVerb::Sweep => Some(Place::Verb),
+        | AdminVerb::Sweep => None,
+        AdminVerb::Require { .. } | AdminVerb::Token { .. } => Some(Place::Verb),
     }
 }
 
@@ -77,10 +61,9 @@ fn unbuilt(ask: &Ask) -> Option<Place>
     ensures { result ≡ unbuilt ask.now }
 {
     match ask {
-        Ask::Bad { .. } | Ask::Page { .. } => None,
-        Ask::NewTab(new) => unbuilt_new_tab(new),
+        Ask::Bad { .. } | Ask::NewTab(_) | Ask::Page { .. } | Ask::Logout { .. } => None,
         Ask::Post(post) => unbuilt_form(&post.form),
-        Ask::Verify { .. } | Ask::Reset { .. } | Ask::Logout { .. } => Some(Place::Verb),
+        Ask::Verify { .. } | Ask::Reset { .. } => Some(Place::Verb),
         Ask::Admin { verb, .. } => unbuilt_verb(verb),
     }
 }
