@@ -1,6 +1,6 @@
 -- What holds of each fact that an answer adds.
 use Rattle.std.proofs.Common.{◌≡◌, ℕ, ◌+◌, Bool, true, false, List, [], ◌∷◌, ◌++◌, Some, None, refl, sym, ap, subst, ◌∙◌}
-use Rattle.std.specs.Prelude.{Option, Result, Ok, Err, is_some}
+use Rattle.std.specs.Prelude.{Option, Result, Ok, Err, map}
 use Rattle.std.specs.List.{All}
 use Rattle.std.proofs.lemmas.List.Elements.{All-nil, All-cons, All-append}
 use Rattle.conditions.specs.declared.secret_kind.SecretKind.{SecretKind}
@@ -25,6 +25,7 @@ use Rattle.facts.specs.declared.fact.Fact.TheVariants as events
 use Rattle.asks.specs.declared.finding.Finding.{Finding}
 use Rattle.asks.specs.declared.finding.Finding.TheVariants as findings
 use Rattle.facts.specs.declared.secret.Secret.{Secret}
+use Rattle.facts.specs.declared.tabs.RootSession.{RootSession}
 use Rattle.facts.specs.declared.secret.Secret.TheVariants as secrets
 use Rattle.facts.specs.Serials.{last_stored_serial}
 use Rattle.facts.specs.Tabs.{live_session, who_of}
@@ -40,19 +41,22 @@ use Rattle.login_progress.specs.declared.progress.Progress.TheVariants as progre
 use Rattle.login_progress.specs.Progress.{progress_of}
 use Rattle.tab_asks.specs.declared.check.Check.{Check}
 use Rattle.tab_asks.specs.declared.check.Check.TheVariants as checks
+use Rattle.tab_asks.specs.Logout.{live_in, end_facts, due_logout}
 use Rattle.tab_asks.specs.NewTab.{check_new_tab, facts_opened, opening_fact, tab_opened, new_tab_answer, due_new_tab}
-use Rattle.tab_asks.specs.Pages.{page_fact, session_for, session_fact, completion, progress_answer, tab_answer, tab_answer_then, visit_answer, due_page}
+use Rattle.tab_asks.specs.Pages.{page_fact, session_for, beginning, levels_recorded, seen_now, completion_facts, completion, progress_answer, tab_answer, tab_answer_then, visit_answer, due_page}
 use Rattle.tab_asks.specs.Post.{check_post, check_form, check_of, name_check, password_check, evidence_by, known_over, answer_to_accepted, shown_again, answer_to_check, post_where, post_by, post_in, due_post}
 use Rattle.tab_asks.specs.Forms.{named_by, target_of, concerned}
 use Rattle.tab_asks.specs.Visit.{check_tab, check_visit, check_account}
 use Rattle.realm_data.specs.PasswordHash.{HashedPassword}
 use Rattle.admin_asks.specs.Account.{GivenSecrets, password_facts, otp_facts, recovery_facts, count, secret_facts}
 use Rattle.admin_asks.specs.Closing.{answer_to_enable, answer_to_disable, due_enable, due_disable, check_open, due_unlock}
+use Rattle.admin_asks.specs.Ending.{check_session, outlived_ids, answer_to_revoke, due_revoke, due_sweep}
 use Rattle.admin_asks.specs.Named.{check_user}
 use Rattle.admin_asks.specs.OtpRemove.{check_there, removal, answer_to_otp_remove, due_otp_remove}
 use Rattle.admin_asks.specs.OtpSet.{answer_to_otp_set, due_otp_set}
 use Rattle.admin_asks.specs.Passwords.{derived}
 use Rattle.admin_asks.specs.SetPassword.{answer_to_set_password, due_set_password}
+use Rattle.admin_asks.specs.Roles.{answer_to_roles, check_made, due_roles}
 use Rattle.admin_asks.specs.RealmPut.{check_realm, answer_to_realm, due_realm_put}
 use Rattle.admin_asks.specs.Admin.{check_key, due_verb, verb_with, due_admin}
 use Rattle.admin_asks.specs.UserAdd.{check_new_user, given_by, answer_to_new_user, due_user_add}
@@ -70,6 +74,8 @@ use Rattle.hall_laws.specs.Ready.{IsAccepted, asked_at}
 -- it holds of each fact that asks add, but for evidence, what it spends, and failures
 pub record Allows (P : Fact → Type 0) : Type 0 where
   pub page : (tab : TabKey) (code : Code) → P (page_fact tab code)
+  pub level : (session : SessionId) (level moment : ℕ) → P (events.Level session level moment)
+  pub ended : (session : SessionId) → P (events.SessionEnd session)
   pub seen : (session : SessionId) (moment : ℕ) → P (events.Seen session moment)
   pub session : (session : SessionId) (root : Option RootKey) (user : UserId) (moment idle most : ℕ) → P (events.Session session root user moment idle most)
   pub completed : (tab : TabKey) (user : UserId) (session : SessionId) (moment : ℕ) → P (events.Completed tab user session moment)
@@ -83,6 +89,8 @@ pub record Allows (P : Fact → Type 0) : Type 0 where
 -- a fact of these kinds
 abbrev pub is_plain : Fact → Bool
 is_plain (events.Rendered tab code action offer) = true
+is_plain (events.Level session level moment) = true
+is_plain (events.SessionEnd session) = true
 is_plain (events.Seen session moment) = true
 is_plain (events.Session session root user moment idle most) = true
 is_plain (events.Completed tab user session moment) = true
@@ -97,6 +105,8 @@ is_plain event = false
 pub plain_allows : (P : Fact → Type 0) → ((fact : Fact) → is_plain fact ≡ true → P fact) → Allows P
 plain_allows P each = record {
   page = λ tab code. each (page_fact tab code) refl;
+  level = λ session level moment. each (events.Level session level moment) refl;
+  ended = λ session. each (events.SessionEnd session) refl;
   seen = λ session moment. each (events.Seen session moment) refl;
   session = λ session root user moment idle most. each (events.Session session root user moment idle most) refl;
   completed = λ tab user session moment. each (events.Completed tab user session moment) refl;
@@ -164,25 +174,45 @@ module _ (P : Fact → Type 0) (allows : Allows P) where
 
   -- ---- what a tab is answered
 
-  session_all : (setting : Setting) (session : SessionId) (root : RootKey) (user : UserId) (seen : Bool) → P (session_fact setting session root user seen)
-  session_all setting session root user true = allows.seen session setting.moment
-  session_all setting session root user false = allows.session session (Some root) user setting.moment setting.realm.session.idle setting.realm.session.max
+  begun_all : (setting : Setting) (session : SessionId) (root : RootKey) (user : UserId) (live : Option RootSession) → All P (beginning setting session root user live)
+  begun_all setting session root user (Some own) = All-nil P
+  begun_all setting session root user None =
+      let fact = events.Session session (Some root) user setting.moment setting.realm.session.idle setting.realm.session.max in
+      All-cons P fact [] (allows.session session (Some root) user setting.moment setting.realm.session.idle setting.realm.session.max) (All-nil P)
+
+  levels_all : (setting : Setting) (session : SessionId) (levels : List ℕ) → All P (levels_recorded setting session levels)
+  levels_all setting session [] = All-nil P
+  levels_all setting session (level ∷ levels) =
+      All-cons P (events.Level session level setting.moment) (levels_recorded setting session levels) (allows.level session level setting.moment) (levels_all setting session levels)
+
+  seen_all : (setting : Setting) (live : Option RootSession) → All P (seen_now setting live)
+  seen_all setting None = All-nil P
+  seen_all setting (Some own) = All-cons P (events.Seen own.session setting.moment) [] (allows.seen own.session setting.moment) (All-nil P)
+
+  completion_all : (setting : Setting) (known : KnownTab) (user : UserId) (levels : List ℕ) (session : SessionId) (live : Option RootSession)
+      → All P (completion_facts setting known user levels session live)
+  completion_all setting known user levels session live =
+      let begun = beginning setting session known.root user live in
+      let reached = levels_recorded setting session levels in
+      let seen = seen_now setting live in
+      let ending = events.Completed known.tab user session setting.moment in
+      let last = All-cons P ending [] (allows.completed known.tab user session setting.moment) (All-nil P) in
+      All-append P ((begun ++ reached) ++ seen) (ending ∷ [])
+      (All-append P (begun ++ reached) seen (All-append P begun reached (begun_all setting session known.root user live) (levels_all setting session levels)) (seen_all setting live)) last
 
   page_alone : (tab : TabKey) (code : Code) → All P (page_fact tab code ∷ [])
   page_alone tab code = All-cons P (page_fact tab code) [] (allows.page tab code) (All-nil P)
 
   progress_all : (facts : List Fact) (setting : Setting) (known : KnownTab) (progress : Progress) → All P (progress_answer facts setting known progress).added
   unfolding progress_answer completion
-  progress_all facts setting known (progresses.Ready user) =
+  progress_all facts setting known (progresses.Ready user levels) =
       let live = live_session setting.moment known.state in
-      let session = session_for facts setting.draws live in
-      let ending = events.Completed known.tab user session setting.moment in
-      All-cons P (session_fact setting session known.root user (is_some live)) (ending ∷ []) (session_all setting session known.root user (is_some live))
-      (All-cons P ending [] (allows.completed known.tab user session setting.moment) (All-nil P))
+      completion_all setting known user levels (session_for facts setting.draws live) live
   progress_all facts setting known (progresses.Asked asked) = page_alone known.tab (next_code facts setting.draws)
   progress_all facts setting known (progresses.Denied execution) = All-nil P
   progress_all facts setting known (progresses.NotConfigured execution) = All-nil P
   progress_all facts setting known progresses.DeadEnd = All-nil P
+  progress_all facts setting known (progresses.LevelMissed level) = All-nil P
 
   pub tab_all : (facts : List Fact) (setting : Setting) (known : KnownTab) → All P (tab_answer facts setting known).added
   unfolding tab_answer
@@ -198,15 +228,18 @@ module _ (P : Fact → Type 0) (allows : Allows P) where
   open_all : (setting : Setting) (new : NewTab) → All P (due_new_tab setting new).added
   unfolding due_new_tab new_tab_answer
   open_all setting new =
-      settled_all setting.facts None (new_tab_answer setting) (check_new_tab setting.realm new) (λ level is.
-      let more = facts_opened setting level in
-      let opened = opening_fact setting level in
-      All-cons P opened (visit_answer more setting (tab_opened more setting level)).added (allows.opened _ _ _ _ _ _) (visit_all more setting (tab_opened more setting level)))
+      settled_all setting.facts None (new_tab_answer setting) (check_new_tab setting new) (λ place is.
+      let more = facts_opened setting place in
+      let opened = opening_fact setting place in
+      let seen = seen_now setting place.live in
+      All-append P (seen ++ opened ∷ []) (visit_answer more setting (tab_opened more setting place)).added
+      (All-append P seen (opened ∷ []) (seen_all setting place.live) (All-cons P opened [] (allows.opened _ _ _ _ _ _) (All-nil P)))
+      (visit_all more setting (tab_opened more setting place)))
 
   page_all : (setting : Setting) (root : Option RootKey) (tab : TabKey) → All P (due_page setting root tab).added
   unfolding due_page
   page_all setting root tab =
-      settled_all setting.facts None (visit_answer setting.facts setting) (check_tab setting.facts root tab) (λ known is. visit_all setting.facts setting known)
+      settled_all setting.facts None (visit_answer setting.facts setting) (check_tab setting.facts setting.moment root tab) (λ known is. visit_all setting.facts setting known)
 
   -- ---- posts
 
@@ -221,7 +254,7 @@ module _ (P : Fact → Type 0) (allows : Allows P) where
   module _ (setting : Setting) (post : Post) (finding : Finding)
       (failed : AllowsFailures P setting)
       (evidence : (accepted : IsAccepted setting post finding) → All P (evidence_by setting accepted.known post.form accepted.user accepted.credential)) where
-    check_all : (known : KnownTab) (named : Option UserId) (check : Check) → check_tab setting.facts post.root post.tab ≡ Ok known → check_post setting.facts setting.moment known post ≡ Ok named
+    check_all : (known : KnownTab) (named : Option UserId) (check : Check) → check_tab setting.facts setting.moment post.root post.tab ≡ Ok known → check_post setting.facts setting.moment known post ≡ Ok named
         → check_form setting known (asked_at setting known) named post.form finding ≡ Ok check
         → All P (answer_to_check setting known (asked_at setting known) post.form check).added
     unfolding answer_to_check answer_to_accepted
@@ -242,7 +275,7 @@ module _ (P : Fact → Type 0) (allows : Allows P) where
     unfolding due_post post_in post_where
     post_all =
         let facts = setting.facts in
-        settled_all facts None (post_in setting post finding) (check_tab facts post.root post.tab) (λ known is_known.
+        settled_all facts None (post_in setting post finding) (check_tab facts setting.moment post.root post.tab) (λ known is_known.
         settled_all facts (Some known.tab) (post_by setting post.form finding known) (check_post facts setting.moment known post) (λ named is_named.
         let asked = asked_at setting known in
         settled_all facts (Some known.tab) (answer_to_check setting known asked post.form) (check_form setting known asked named post.form finding) (λ check is.
@@ -316,11 +349,30 @@ module _ (P : Fact → Type 0) (allows : Allows P) where
       settled_all setting.facts None (answer_to_disable name) (check_user setting.facts name) (λ user is.
       All-cons P (events.Disabled user) [] (allows.disabled user) (All-nil P))
 
+  roles_all : (setting : Setting) (name : List ℕ) (roles : List (List ℕ)) → All P (due_roles setting name roles).added
+  unfolding due_roles
+  roles_all setting name roles =
+      settled_all setting.facts None (answer_to_roles name roles) (check_made setting.facts name) (λ user is.
+      All-cons P (events.UserPut user name roles) [] (allows.user_put user name roles) (All-nil P))
+
+  ends_all : (ended : List SessionId) → All P (map events.SessionEnd ended)
+  ends_all [] = All-nil P
+  ends_all (session ∷ ended) = All-cons P (events.SessionEnd session) (map events.SessionEnd ended) (allows.ended session) (ends_all ended)
+
+  revoke_all : (setting : Setting) (session : SessionId) → All P (due_revoke setting session).added
+  unfolding due_revoke
+  revoke_all setting session =
+      settled_all setting.facts None (answer_to_revoke session) (check_session setting.facts session) (λ there is. ends_all (session ∷ []))
+
+  sweep_all : (setting : Setting) → All P (due_sweep setting).added
+  unfolding due_sweep
+  sweep_all setting = ends_all (outlived_ids setting.moment setting.facts)
+
   verb_all : (setting : Setting) (verb : AdminVerb) (finding : Finding) → All P (due_verb setting verb finding).added
   unfolding due_enable due_unlock
   verb_all setting (verbs.RealmPut realm) finding = realm_all setting realm
   verb_all setting (verbs.UserAdd new) finding = user_all setting new finding
-  verb_all setting (verbs.Roles name roles) finding = All-nil P
+  verb_all setting (verbs.Roles name roles) finding = roles_all setting name roles
   verb_all setting (verbs.SetPassword name password) finding = set_password_all setting name finding
   verb_all setting (verbs.OtpSet name secret) finding = otp_set_all setting name secret
   verb_all setting (verbs.OtpRemove name) finding = otp_remove_all setting name
@@ -329,13 +381,23 @@ module _ (P : Fact → Type 0) (allows : Allows P) where
   verb_all setting (verbs.Disable name) finding = disable_all setting name
   verb_all setting (verbs.Unlock name) finding = enable_all setting name (check_open setting.facts name)
   verb_all setting (verbs.Token name action life) finding = All-nil P
-  verb_all setting (verbs.Revoke session) finding = All-nil P
-  verb_all setting verbs.Sweep finding = All-nil P
+  verb_all setting (verbs.Revoke session) finding = revoke_all setting session
+  verb_all setting verbs.Sweep finding = sweep_all setting
 
   admin_all : (setting : Setting) (access : Access) (verb : AdminVerb) (finding : Finding) → All P (due_admin setting access verb finding).added
   unfolding due_admin
   admin_all setting access verb finding =
       settled_all setting.facts None (verb_with setting verb finding) (check_key setting.realm access) (λ key is. verb_all setting verb finding)
+
+  -- ---- logouts
+
+  end_all : (live : Option RootSession) → All P (end_facts live)
+  end_all None = All-nil P
+  end_all (Some own) = ends_all (own.session ∷ [])
+
+  logout_all : (setting : Setting) (root : Option RootKey) → All P (due_logout setting root).added
+  unfolding due_logout
+  logout_all setting root = end_all (live_in setting root)
 
   -- ---- any ask
 
@@ -346,7 +408,7 @@ module _ (P : Fact → Type 0) (allows : Allows P) where
   other_all setting (asks.Post post) finding h = absurd cc
   other_all setting (asks.Verify key) finding h = All-nil P
   other_all setting (asks.Reset key password) finding h = All-nil P
-  other_all setting (asks.Logout root) finding h = All-nil P
+  other_all setting (asks.Logout root) finding h = logout_all setting root
   other_all setting (asks.Admin access verb) finding h = admin_all setting access verb finding
 
   pub ask_all : (setting : Setting) (ask : Ask) (finding : Finding)
@@ -359,5 +421,5 @@ module _ (P : Fact → Type 0) (allows : Allows P) where
   ask_all setting (asks.Post post) finding failed evidence = post_all setting post finding failed (evidence post)
   ask_all setting (asks.Verify key) finding failed evidence = All-nil P
   ask_all setting (asks.Reset key password) finding failed evidence = All-nil P
-  ask_all setting (asks.Logout root) finding failed evidence = All-nil P
+  ask_all setting (asks.Logout root) finding failed evidence = logout_all setting root
   ask_all setting (asks.Admin access verb) finding failed evidence = admin_all setting access verb finding

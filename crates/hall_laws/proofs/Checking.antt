@@ -1,5 +1,5 @@
 -- A check of a password counts only where nothing else refuses.
-use Rattle.std.proofs.Common.{◌≡◌, ℕ, Bool, true, false, List, Some, None, Ok, Err, refl, sym, ap, subst, ◌∙◌, inl, inr}
+use Rattle.std.proofs.Common.{◌≡◌, ℕ, Bool, true, false, List, Some, None, Ok, Err, refl, sym, ap, ◌∙◌, inl, inr}
 use Rattle.std.specs.Prelude.{Option, Result, ◌⊎◌}
 use Rattle.login_base.specs.declared.id.UserId.{UserId}
 use Rattle.asks.specs.declared.ask.Form.{Form}
@@ -7,7 +7,6 @@ use Rattle.asks.specs.declared.ask.Form.TheVariants as forms
 use Rattle.asks.specs.declared.ask.Post.{Post}
 use Rattle.asks.specs.declared.finding.Finding.TheVariants.{Checked}
 use Rattle.asks.specs.declared.reply.Need.{Need}
-use Rattle.facts.specs.declared.fact.Fact.{Fact}
 use Rattle.facts.specs.declared.user_password.UserPassword.{UserPassword}
 use Rattle.facts.specs.Tabs.{who_of}
 use Rattle.hall_answers.specs.declared.refusal.Refusal.{Refusal}
@@ -97,7 +96,7 @@ module _ (setting : Setting) (post : Post) (had : ℕ) where
   abbrev by_check : KnownTab → Result Check Refusal → Answer
   by_check known check = settled setting.facts (Some known.tab) (answer_to_check setting known (asked_at setting known) post.form) check
 
-  due_by : (fits : Bool) (known : KnownTab) (named : Option UserId) → check_tab setting.facts post.root post.tab ≡ Ok known
+  due_by : (fits : Bool) (known : KnownTab) (named : Option UserId) → check_tab setting.facts setting.moment post.root post.tab ≡ Ok known
       → check_post setting.facts setting.moment known post ≡ Ok named → due_post setting post (Checked had fits) ≡ by_check known (form_check fits known named)
   unfolding due_post post_in post_where
   due_by fits known named is_known is_named = rw (is_known, is_named) refl
@@ -105,7 +104,7 @@ module _ (setting : Setting) (post : Post) (had : ℕ) where
   abbrev Counts : Type 0
   Counts = IsAccepted setting post (Checked had true) ⊎ (due_post setting post (Checked had true) ≡ due_post setting post (Checked had false))
 
-  form_counts : (known : KnownTab) (named : Option UserId) (check : Result Check Refusal) → check_tab setting.facts post.root post.tab ≡ Ok known
+  form_counts : (known : KnownTab) (named : Option UserId) (check : Result Check Refusal) → check_tab setting.facts setting.moment post.root post.tab ≡ Ok known
       → check_post setting.facts setting.moment known post ≡ Ok named → form_check true known named ≡ check → Sames check (form_check false known named) → Counts
   form_counts known named (Ok (checks.Fits user credential)) is_known is_named fits same =
       inl (record { known = known; is_known = is_known; named = named; is_named = is_named; user = user; credential = credential; fits = fits })
@@ -118,17 +117,17 @@ module _ (setting : Setting) (post : Post) (had : ℕ) where
   form_counts known named (Err refusal) is_known is_named fits same =
       inr (due_by true known named is_known is_named ∙ ap (by_check known) (fits ∙ sym same) ∙ sym (due_by false known named is_known is_named))
 
-  named_counts : (known : KnownTab) (named : Result (Option UserId) Refusal) → check_tab setting.facts post.root post.tab ≡ Ok known
+  named_counts : (known : KnownTab) (named : Result (Option UserId) Refusal) → check_tab setting.facts setting.moment post.root post.tab ≡ Ok known
       → check_post setting.facts setting.moment known post ≡ named → Counts
   unfolding due_post post_in
   named_counts known (Ok named) is_known is_named =
       form_counts known named (form_check true known named) is_known is_named refl (same_form setting known (asked_at setting known) named post.form had)
   named_counts known (Err refusal) is_known is_named = inr (rw (is_known, is_named) refl)
 
-  known_counts : (known : Result KnownTab Refusal) → check_tab setting.facts post.root post.tab ≡ known → Counts
+  known_counts : (known : Result KnownTab Refusal) → check_tab setting.facts setting.moment post.root post.tab ≡ known → Counts
   unfolding due_post
   known_counts (Ok known) is_known = named_counts known (check_post setting.facts setting.moment known post) is_known refl
   known_counts (Err refusal) is_known = inr (rw is_known refl)
 
   pub check_counts : Counts
-  check_counts = known_counts (check_tab setting.facts post.root post.tab) refl
+  check_counts = known_counts (check_tab setting.facts setting.moment post.root post.tab) refl

@@ -1,5 +1,5 @@
 -- What the answers to asks do to an account that is closed or locked.
-use Rattle.std.proofs.Common.{◌≡◌, ℕ, Bool, true, false, ◌||◌, ◌==◌, List, [], ◌∷◌, ◌++◌, Some, None, refl, sym, ap, subst, ◌∙◌, append_assoc}
+use Rattle.std.proofs.Common.{◌≡◌, Bool, true, false, ◌||◌, ◌==◌, List, [], ◌∷◌, ◌++◌, Some, None, refl, sym, ap, subst, ◌∙◌, append_assoc}
 use Rattle.std.specs.Prelude.{Option, Ok, unwrap_or, if◌then◌else◌}
 use Rattle.std.specs.Option.{option_or}
 use Rattle.std.specs.List.{All, list_any, flat_map}
@@ -14,7 +14,7 @@ use Rattle.facts.specs.declared.fact.Fact.{Fact}
 use Rattle.facts.specs.declared.fact.Fact.TheVariants as events
 use Rattle.facts.specs.Accounts.{disabled_by, is_disabled}
 use Rattle.facts.specs.Places.{last_of}
-use Rattle.account_states.specs.Standings.{standing_of, is_failure, renews, moves_standing}
+use Rattle.account_states.specs.Standings.{standing_of, renews, moves_standing}
 use Rattle.account_states.specs.States.{is_closed}
 use Rattle.account_states.proofs.StateLemmas.{is_disabled_more, permanent_kept, standing_kept}
 use Rattle.hall_answers.specs.Setting.{Setting, setting_at}

@@ -1,5 +1,5 @@
 -- Whose code a check comes to.
-use Rattle.std.proofs.Common.{◌≡◌, ℕ, Bool, true, false, List, Some, None, refl, sym, ap, subst}
+use Rattle.std.proofs.Common.{◌≡◌, ℕ, Bool, true, false, List, Some, None, refl, ap, subst}
 use Rattle.std.specs.Prelude.{Option, if◌then◌else◌}
 use Rattle.login_base.specs.declared.id.UserId.{UserId}
 use Rattle.one_time.specs.declared.verdict.Verdict.{Verdict}

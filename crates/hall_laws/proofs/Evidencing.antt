@@ -1,5 +1,5 @@
 -- Evidence comes of posts alone, and only where it was asked.
-use Rattle.std.proofs.Common.{◌≡◌, ℕ, true, false, ◌&&◌, List, [], ◌∷◌, Some, None, refl, ap, ◌∙◌}
+use Rattle.std.proofs.Common.{◌≡◌, ℕ, true, false, ◌&&◌, List, [], ◌∷◌, Some, None, refl, sym, ap, ◌∙◌}
 use Rattle.std.specs.Prelude.{Option, ◌==◌}
 use Rattle.std.specs.List.{All}
 use Rattle.std.proofs.lemmas.Bool.{and_parts, eqb-true}
@@ -26,7 +26,6 @@ use Rattle.hall_laws.specs.AskedEvidence.{execution_of, IsRightEvidence, IsAsked
 use Rattle.hall_laws.specs.Ready.{IsAccepted}
 use Rattle.hall_laws.proofs.Added.{is_plain, plain_allows, post_all, other_all}
 use Rattle.hall_laws.proofs.PostReadiness.{behind}
-use Rattle.hall_laws.proofs.Repeating.{tab_is}
 
 same_is : (a b : Id) → same_id a b ≡ true → a ≡ b
 same_is a b h =
@@ -81,7 +80,7 @@ accepted_right : (setting : Setting) (post : Post) (finding : Finding) (accepted
 accepted_right setting post finding accepted execution h =
     let b = behind setting post finding accepted in
     record {
-      is_its_tab = tab_is setting.facts post.root post.tab accepted.known accepted.is_known;
+      is_its_tab = sym b.known.is_tab;
       is_of_form = h;
       known = accepted.known;
       is_known = accepted.is_known;

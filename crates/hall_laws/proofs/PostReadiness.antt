@@ -1,8 +1,6 @@
 -- When a post is answered that its login is complete.
 use Rattle.std.proofs.Common.{◌≡◌, ℕ, true, false, List, Some, None, refl, sym, ap, subst, ◌∙◌}
 use Rattle.std.specs.Prelude.{Option, Result, Ok, ◌↔◌}
-use Rattle.login_base.specs.declared.id.RootKey.{RootKey}
-use Rattle.login_base.specs.declared.id.TabKey.{TabKey}
 use Rattle.login_base.specs.declared.id.UserId.{UserId}
 use Rattle.asks.specs.declared.ask.Form.{Form}
 use Rattle.asks.specs.declared.ask.Form.TheVariants as forms
@@ -11,11 +9,9 @@ use Rattle.facts.specs.declared.fact.Fact.{Fact}
 use Rattle.asks.specs.declared.finding.Finding.{Finding}
 use Rattle.asks.specs.declared.finding.Finding.TheVariants as findings
 use Rattle.asks.specs.declared.reply.Need.{Need}
-use Rattle.facts.specs.declared.tabs.Opening.{Opening}
 use Rattle.facts.specs.declared.tabs.TabState.{TabState}
 use Rattle.facts.specs.declared.user_password.UserPassword.{UserPassword}
 use Rattle.facts.specs.Accounts.{account_named}
-use Rattle.facts.specs.Realms.{realm_of}
 use Rattle.facts.specs.Tabs.{tab_state, live_session, who_of}
 use Rattle.hall_answers.specs.declared.refusal.Refusal.{Refusal}
 use Rattle.hall_answers.specs.declared.refusal.Refusal.TheVariants as refusals
@@ -32,30 +28,14 @@ use Rattle.tab_asks.specs.declared.check.Credential.{Credential}
 use Rattle.tab_asks.specs.declared.passing.Passing.{Passing}
 use Rattle.tab_asks.specs.Forms.{named_by, target_of, concerned}
 use Rattle.tab_asks.specs.Post.{is_code, check_code, check_user, check_post, has_need, check_asked, check_credential, check_form, password_check, name_check, check_of, known_over, answer_to_accepted, answer_to_check, post_where, post_by, post_in, due_post}
-use Rattle.tab_asks.specs.Visit.{tab_in, tab_with, check_tab, check_whole, check_unfinished, check_account, user_of, same_user}
+use Rattle.tab_asks.specs.Visit.{check_tab, check_whole, check_unfinished, check_account, user_of, same_user}
 use Rattle.hall_laws.specs.Ready.{IsReady, IsAccepted, IsReadyAfterPost, facts_accepted, done_for}
 use Rattle.hall_laws.proofs.Gates.{first_passed, test_passed, test_failed, whole_is, open_is, same_either, concerned_is, settled_done}
-use Rattle.hall_laws.proofs.Readiness.{lets_in, ready_user, tab_done, known_at, ready_progress}
+use Rattle.hall_laws.proofs.Readiness.{lets_in, ready_user, tab_done, ready_progress}
+use Rattle.hall_laws.proofs.TabLives.{IsKnown, tab_known}
 use Rattle.hall_laws.proofs.TabStates.{named_as, with_name, evidence_state, account_kept}
 
 -- ---- what an accepted post passed
-
--- a known tab is as the facts say
-pub record IsKnown (facts : List Fact) (known : KnownTab) : Type 0 where
-  pub is_state : known.state ≡ tab_state known.root known.tab facts
-  pub is_opened : (tab_state known.root known.tab facts).opening ≡ Some known.opening
-
-opening_known : (facts : List Fact) (root : RootKey) (tab : TabKey) (known : KnownTab) (found : Option Opening) → (tab_state root tab facts).opening ≡ found
-    → tab_with root tab (tab_state root tab facts) found ≡ Ok known → IsKnown facts known
-opening_known facts root tab known (Some opening) is h =
-    let e : known_at root tab opening facts ≡ known = cc in
-    subst (λ (k : KnownTab). IsKnown facts k) e (record { is_state = refl; is_opened = is })
-opening_known facts root tab known None is h = absurd cc
-
-pub tab_known : (facts : List Fact) (root : Option RootKey) (tab : TabKey) (known : KnownTab) → check_tab facts root tab ≡ Ok known → IsKnown facts known
-unfolding check_tab tab_in
-tab_known facts (Some root) tab known h = opening_known facts root tab known (tab_state root tab facts).opening refl h
-tab_known facts None tab known h = absurd cc
 
 -- what check_post found
 pub record Current (facts : List Fact) (moment : ℕ) (known : KnownTab) (post : Post) (named : Option UserId) : Type 0 where
@@ -135,7 +115,7 @@ fits_named setting asked who password forms.VerifyEmail finding user credential 
 
 -- the tab after an accepted post: as before, but for whom the form names, who passed the same checks
 pub record Behind (setting : Setting) (post : Post) (finding : Finding) (accepted : IsAccepted setting post finding) : Type 0 where
-  pub known : IsKnown setting.facts accepted.known
+  pub known : IsKnown setting.facts setting.moment post.root post.tab accepted.known
   pub current : Current setting.facts setting.moment accepted.known post accepted.named
   pub fitting : Fitting setting accepted.known (asked_in (progress_of setting.facts setting.moment accepted.known)) accepted.named post.form finding (checks.Fits accepted.user accepted.credential)
   pub is_state : tab_state accepted.known.root accepted.known.tab (facts_accepted setting post finding accepted) ≡ with_name accepted.known.state accepted.named
@@ -144,7 +124,7 @@ pub behind : (setting : Setting) (post : Post) (finding : Finding) (accepted : I
 behind setting post finding accepted =
     let known = accepted.known in
     let facts = setting.facts in
-    let is_known = tab_known facts post.root post.tab known accepted.is_known in
+    let is_known = tab_known facts setting.moment post.root post.tab known accepted.is_known in
     let current = is_current facts setting.moment known post accepted.named accepted.is_named in
     let fitting = is_fitting setting known (asked_in (progress_of facts setting.moment known)) accepted.named post.form finding (checks.Fits accepted.user accepted.credential) accepted.fits in
     let who = who_of setting.moment known.state in
@@ -185,7 +165,6 @@ whole_behind setting post finding accepted =
 pub progress_ready : (setting : Setting) (post : Post) (finding : Finding) (accepted : IsAccepted setting post finding) (user : UserId)
     → ready_user (progress_of (facts_accepted setting post finding accepted) setting.moment (known_accepted setting post finding accepted)) ≡ Some user
     → IsReady (facts_accepted setting post finding accepted) setting.moment accepted.known.root accepted.known.tab user
-unfolding progress_of
 progress_ready setting post finding accepted user h =
     let b = behind setting post finding accepted in
     let known = accepted.known in
@@ -194,7 +173,7 @@ progress_ready setting post finding accepted user h =
     let more = facts_accepted setting post finding accepted in
     let now = tab_state known.root known.tab more in
     let live = live_session setting.moment known.state in
-    let lets = lets_in more known.tab (who_of setting.moment now) (realm_of known.opening.version more) user h in
+    let lets = lets_in more setting.moment (known_over known more) user h in
     let same = subst (λ (n : Option UserId). same_user n (user_of live) ≡ Ok tt) b.current.is_named b.current.same in
     let who = concerned_is named known.state.named live same ∙ sym (ap (who_of setting.moment) b.is_state) ∙ lets.is_theirs in
     let opened = open_is facts setting.moment user (subst (λ (w : Option UserId). check_account facts setting.moment w ≡ Ok tt) who b.fitting.account) in
@@ -202,14 +181,16 @@ progress_ready setting post finding accepted user h =
     record {
       opening = known.opening;
       is_opened = opened_behind setting post finding accepted;
+      is_live = b.known.is_live;
       realm = lets.realm;
-      is_realm = lets.is_realm;
+      is_realm = lets.is_found;
       is_unfinished = ap (λ (s : TabState). s.completed) b.is_state ∙ b.current.unfinished;
       is_whole = whole_is now.named (live_session setting.moment now) (whole_behind setting post finding accepted);
       is_theirs = lets.is_theirs;
       is_unlocked = ap (λ (s : AccountState). is_locked s.standing setting.moment) (account_kept facts passing post.form user) ∙ opened.unlocked;
       is_enabled = ap is_closed_in (account_kept facts passing post.form user) ∙ opened.enabled;
       holds = lets.holds;
+      is_granted = lets.is_granted_so;
     }
 
 -- ---- posts
@@ -220,7 +201,7 @@ pub record Answered (setting : Setting) (post : Post) (finding : Finding) (user 
   pub done : ready_user (progress_of (facts_accepted setting post finding accepted) setting.moment (known_accepted setting post finding accepted)) ≡ Some user
 
 check_answered : (setting : Setting) (post : Post) (finding : Finding) (user : UserId) (known : KnownTab) (named : Option UserId) (check : Check)
-    → check_tab setting.facts post.root post.tab ≡ Ok known
+    → check_tab setting.facts setting.moment post.root post.tab ≡ Ok known
     → check_post setting.facts setting.moment known post ≡ Ok named
     → check_form setting known (asked_in (progress_of setting.facts setting.moment known)) named post.form finding ≡ Ok check
     → done_for (answer_to_check setting known (asked_in (progress_of setting.facts setting.moment known)) post.form check).reply.what ≡ Some user
@@ -247,7 +228,7 @@ pub answered : (setting : Setting) (post : Post) (finding : Finding) (user : Use
 unfolding due_post post_in post_where
 answered setting post finding user h =
     let facts = setting.facts in
-    let first = settled_done facts None (post_in setting post finding) (check_tab facts post.root post.tab) user h in
+    let first = settled_done facts None (post_in setting post finding) (check_tab facts setting.moment post.root post.tab) user h in
     let known = first.got in
     let second = settled_done facts (Some known.tab) (post_by setting post.form finding known) (check_post facts setting.moment known post) user first.done in
     let asked = asked_in (progress_of facts setting.moment known) in

@@ -1,6 +1,6 @@
 -- An accepted post that comes again is refused, and adds nothing.
 use Rattle.std.proofs.Common.{◌≡◌, ℕ, ◌≤◌, Bool, true, false, List, [], ◌∷◌, ◌++◌, Some, None, refl, sym, ap, subst, ◌∙◌, append_assoc, arith}
-use Rattle.std.specs.Prelude.{Option, Result, Ok, Err, is_some, fold, if◌then◌else◌}
+use Rattle.std.specs.Prelude.{Option, Result, Ok, Err, fold, if◌then◌else◌}
 use Rattle.std.specs.Option.{option_or}
 use Rattle.std.proofs.lemmas.List.{append-nil}
 use Rattle.std.proofs.lemmas.Bool.{eq-eqb}
@@ -16,20 +16,21 @@ use Rattle.asks.specs.declared.ask.Post.{Post}
 use Rattle.facts.specs.declared.fact.Fact.{Fact}
 use Rattle.facts.specs.declared.fact.Fact.TheVariants as events
 use Rattle.asks.specs.declared.finding.Finding.{Finding}
-use Rattle.facts.specs.declared.tabs.Opening.{Opening}
 use Rattle.facts.specs.declared.tabs.RootSession.{RootSession}
 use Rattle.facts.specs.declared.tabs.TabState.{TabState}
 use Rattle.facts.specs.Accounts.{put_as, account_named}
 use Rattle.facts.specs.Places.{last_of}
 use Rattle.facts.specs.Serials.{last_tab_serial}
-use Rattle.facts.specs.Tabs.{tab_state, tab_after, session_after, is_live, live_among, live_session, user_among, who_of}
-use Rattle.facts.proofs.PlacesLemmas.{last_of_append}
+use Rattle.facts.specs.Tabs.{tab_state, tab_after, tab_is_live, tab_is_known, seen_at, is_live, live_among, live_session, user_among, who_of}
+use Rattle.facts.proofs.PlacesLemmas.{last_of_append, fold_append}
 use Rattle.facts.proofs.SerialLemmas.{last_tab_serial_more}
+use Rattle.asks.specs.declared.reply.What.TheVariants as whats
+use Rattle.hall_answers.specs.Answers.{only}
 use Rattle.hall_answers.specs.declared.answer.Answer.{Answer}
 use Rattle.hall_answers.specs.declared.refusal.Refusal.{Refusal}
 use Rattle.hall_answers.specs.declared.refusal.Refusal.TheVariants as refusals
-use Rattle.hall_answers.specs.Ids.{next_code, next_session}
-use Rattle.hall_answers.specs.Refusals.{◌>>=◌, what_of, settled}
+use Rattle.hall_answers.specs.Ids.{next_code}
+use Rattle.hall_answers.specs.Refusals.{◌>>=◌, what_of, refused, settled}
 use Rattle.hall_answers.specs.Setting.{Setting}
 use Rattle.login_progress.specs.declared.known_tab.KnownTab.{KnownTab}
 use Rattle.login_progress.specs.declared.progress.Progress.{Progress}
@@ -41,14 +42,16 @@ use Rattle.tab_asks.specs.declared.check.Spent.{Spent}
 use Rattle.tab_asks.specs.declared.check.Spent.TheVariants as spends
 use Rattle.tab_asks.specs.declared.passing.Passing.{Passing}
 use Rattle.tab_asks.specs.Forms.{named_by, target_of, code_evidence, evidence_of}
-use Rattle.tab_asks.specs.Pages.{page_fact, session_for, session_fact, completion, progress_answer, tab_answer}
+use Rattle.tab_asks.specs.Pages.{page_fact, session_for, beginning, levels_recorded, seen_now, completion_facts, completion, progress_answer, tab_answer}
 use Rattle.tab_asks.specs.Post.{is_code, check_code, check_user, check_post, has_need, check_form, check_of, known_over, evidence_by, answer_to_accepted, post_where, post_by, post_in, due_post}
-use Rattle.tab_asks.specs.Visit.{tab_in, tab_with, check_tab, check_whole, check_unfinished, user_of, same_user}
+use Rattle.tab_asks.specs.Visit.{check_tab, check_whole, check_unfinished, user_of, same_user}
 use Rattle.hall_laws.specs.Ready.{IsAccepted, facts_accepted, done_for}
-use Rattle.hall_laws.specs.Repeats.{HasCodesCounted, is_repeat_refusal, IsRepeatRefused, refused_as_finished}
+use Rattle.hall_laws.specs.Repeats.{HasCodesCounted, is_repeat_refusal, IsRepeatRefused, IsAnsweredAgain, refused_as_finished}
 use Rattle.hall_laws.proofs.CodeSerials.{IsBelow, last_below, shown_at_most, other_code}
+use Rattle.hall_laws.proofs.EvidenceCounts.{HasPassed, check_uses, evidence_counts}
 use Rattle.hall_laws.proofs.PostReadiness.{Current, is_current, behind, accepted_due, answered, known_accepted, opened_behind, whole_behind}
-use Rattle.hall_laws.proofs.Readiness.{known_at, ready_user, lets_in}
+use Rattle.hall_laws.proofs.Readiness.{ready_user, lets_in}
+use Rattle.hall_laws.proofs.TabLives.{lives, expires, forgets}
 use Rattle.hall_laws.proofs.TabStates.{same_id-same, more_state, with_name}
 use Rattle.hall_laws.proofs.Unasked.{IsPostOf, fits_post_of, form_lacks}
 
@@ -105,7 +108,7 @@ not_asked : (setting : Setting) (post : Post) (finding : Finding) (known : Known
 unfolding post_where check_form
 not_asked setting post finding known named h = rw h (record { reply = record { in_its_tab = refl; refusal = refl }; added = refl })
 
-again_in : (later : Setting) (post : Post) (finding : Finding) (known : KnownTab) → check_tab later.facts post.root post.tab ≡ Ok known
+again_in : (later : Setting) (post : Post) (finding : Finding) (known : KnownTab) → check_tab later.facts later.moment post.root post.tab ≡ Ok known
     → ((named : Option UserId) → Current later.facts later.moment known post named → has_need (asked_in (progress_of later.facts later.moment known)) post.form ≡ false)
     → IsRefused known.tab (due_post later post finding)
 unfolding due_post post_in
@@ -117,44 +120,50 @@ again_in later post finding known is_known lacks =
 
 -- ---- the tab later
 
-found_opening : (facts later : List Fact) (root : RootKey) (tab : TabKey) (known : KnownTab) (found : Option Opening) → tab_with root tab (tab_state root tab facts) found ≡ Ok known
-    → (tab_state known.root known.tab later).opening ≡ Some known.opening
-    → tab_with root tab (tab_state root tab later) (tab_state root tab later).opening ≡ Ok (known_over known later)
-found_opening facts later root tab known (Some opening) h is_opened =
-    let e : known_at root tab opening facts ≡ known = cc in
-    subst (λ (k : KnownTab). (tab_state k.root k.tab later).opening ≡ Some k.opening → tab_with root tab (tab_state root tab later) (tab_state root tab later).opening ≡ Ok (known_over k later)) e
-    (λ o. ap (tab_with root tab (tab_state root tab later)) o) is_opened
-found_opening facts later root tab known None h is_opened = absurd cc
-
-found_later : (facts later : List Fact) (root : Option RootKey) (tab : TabKey) (known : KnownTab) → check_tab facts root tab ≡ Ok known
-    → (tab_state known.root known.tab later).opening ≡ Some known.opening → check_tab later root tab ≡ Ok (known_over known later)
-unfolding check_tab tab_in
-found_later facts later (Some root) tab known h is_opened = found_opening facts later root tab known (tab_state root tab facts).opening h is_opened
-found_later facts later None tab known h is_opened = absurd cc
-
-tab_is_with : (facts : List Fact) (root : RootKey) (tab : TabKey) (known : KnownTab) (found : Option Opening) → tab_with root tab (tab_state root tab facts) found ≡ Ok known → known.tab ≡ tab
-tab_is_with facts root tab known (Some opening) h =
-    let e : known_at root tab opening facts ≡ known = cc in
-    sym (ap (λ (k : KnownTab). k.tab) e)
-tab_is_with facts root tab known None h = absurd cc
-
-pub tab_is : (facts : List Fact) (root : Option RootKey) (tab : TabKey) (known : KnownTab) → check_tab facts root tab ≡ Ok known → known.tab ≡ tab
-unfolding check_tab tab_in
-tab_is facts (Some root) tab known h = tab_is_with facts root tab known (tab_state root tab facts).opening h
-tab_is facts None tab known h = absurd cc
+lost_due : (later : Setting) (post : Post) (finding : Finding) (refusal : Refusal) → check_tab later.facts later.moment post.root post.tab ≡ Err refusal
+    → due_post later post finding ≡ refused later.facts None refusal
+unfolding due_post
+lost_due later post finding refusal h = rw h refl
 
 -- ---- what a completion leaves
-
-abbrev completion_facts : RootKey → TabKey → Setting → SessionId → UserId → Bool → List Fact
-completion_facts root tab setting session user seen = session_fact setting session root user seen ∷ events.Completed tab user session setting.moment ∷ []
 
 abbrev with_session : TabState → Option RootSession → TabState
 with_session state own = record state { completed = true; session = own }
 
-completed_state : (root : RootKey) (tab : TabKey) (setting : Setting) (session : SessionId) (user : UserId) (seen : Bool) (state : TabState)
-    → fold (tab_after root tab) state (completion_facts root tab setting session user seen) ≡ with_session state (session_after root state.session (session_fact setting session root user seen))
-completed_state root tab setting session user true state = rw (same_id-same tab.0) refl
-completed_state root tab setting session user false state = rw (same_id-same tab.0) refl
+abbrev new_session : Setting → SessionId → UserId → RootSession
+new_session setting session user =
+    record { session = session; user = user; opened = setting.moment; seen = setting.moment; idle = setting.realm.session.idle; max = setting.realm.session.max }
+
+-- the session that is left, by the one that was live
+abbrev session_left : Setting → SessionId → UserId → Option RootSession → Option RootSession → Option RootSession
+session_left setting session user None own = Some (new_session setting session user)
+session_left setting session user (Some live) own = seen_at live.session setting.moment own
+
+-- recorded levels change nothing of a tab
+levels_fold : (root : RootKey) (tab : TabKey) (setting : Setting) (session : SessionId) (levels : List ℕ) (state : TabState)
+    → fold (tab_after root tab) state (levels_recorded setting session levels) ≡ state
+levels_fold root tab setting session [] state = refl
+levels_fold root tab setting session (level ∷ levels) state = levels_fold root tab setting session levels state
+
+completed_fold : (setting : Setting) (known : KnownTab) (session : SessionId) (user : UserId) (levels : List ℕ) (live : Option RootSession) (state : TabState)
+    → fold (tab_after known.root known.tab) state (completion_facts setting known user levels session live)
+    ≡ fold (tab_after known.root known.tab)
+    (fold (tab_after known.root known.tab) (fold (tab_after known.root known.tab) state (beginning setting session known.root user live)) (seen_now setting live))
+    (events.Completed known.tab user session setting.moment ∷ [])
+completed_fold setting known session user levels live state =
+    let step = tab_after known.root known.tab in
+    let begun = beginning setting session known.root user live in
+    let reached = levels_recorded setting session levels in
+    let seen = seen_now setting live in
+    let ending = events.Completed known.tab user session setting.moment ∷ [] in
+    let first = fold_append step state begun reached ∙ levels_fold known.root known.tab setting session levels (fold step state begun) in
+    let second = fold_append step state (begun ++ reached) seen ∙ ap (λ (s : TabState). fold step s seen) first in
+    fold_append step state ((begun ++ reached) ++ seen) ending ∙ ap (λ (s : TabState). fold step s ending) second
+
+completed_state : (setting : Setting) (known : KnownTab) (session : SessionId) (user : UserId) (levels : List ℕ) (live : Option RootSession) (state : TabState)
+    → fold (tab_after known.root known.tab) state (completion_facts setting known user levels session live) ≡ with_session state (session_left setting session user live state.session)
+completed_state setting known session user levels None state = completed_fold setting known session user levels None state ∙ rw (same_id-same known.root.0, same_id-same known.tab.0) refl
+completed_state setting known session user levels (Some live) state = completed_fold setting known session user levels (Some live) state ∙ rw (same_id-same known.tab.0) refl
 
 user_same : (user : UserId) → same_user (Some user) (Some user) ≡ Ok tt
 user_same user = rw (eq-eqb user.0 user.0 refl) refl
@@ -168,10 +177,10 @@ taken : (live : Bool) (own found : RootSession) → ◌≡◌ {A = Option RootSe
 taken true own found h = cc
 taken false own found h = absurd cc
 
-abbrev seen_now : Bool → ℕ → RootSession → RootSession
-seen_now same moment own = if same then record own { seen = moment } else own
+abbrev seen_if : Bool → ℕ → RootSession → RootSession
+seen_if same moment own = if same then record own { seen = moment } else own
 
-seen_user : (same : Bool) (moment : ℕ) (own : RootSession) → (seen_now same moment own).user ≡ own.user
+seen_user : (same : Bool) (moment : ℕ) (own : RootSession) → (seen_if same moment own).user ≡ own.user
 seen_user true moment own = refl
 seen_user false moment own = refl
 
@@ -181,22 +190,22 @@ record Kept (own : Option RootSession) (named : Option UserId) : Type 0 where
   is : own ≡ Some session
   fits : same_user named (Some session.user) ≡ Ok tt
 
-session_kept : (facts : List Fact) (root : RootKey) (setting : Setting) (user : UserId) (own live : Option RootSession) (named : Option UserId)
+session_kept : (setting : Setting) (session : SessionId) (user : UserId) (own live : Option RootSession) (named : Option UserId)
     → live_among setting.moment own ≡ live → same_user named (user_of live) ≡ Ok tt → user_among live named ≡ Some user
-    → Kept (session_after root own (session_fact setting (session_for facts setting.draws live) root user (is_some live))) named
-session_kept facts root setting user None (Some found) named is same who = absurd cc
-session_kept facts root setting user (Some own) (Some found) named is same who =
+    → Kept (session_left setting session user live own) named
+session_kept setting session user None (Some found) named is same who = absurd cc
+session_kept setting session user (Some own) (Some found) named is same who =
     let e = taken (is_live setting.moment own) own found is in
     let here = same_id own.session.0 found.session.0 in
     record {
-      session = seen_now here setting.moment own;
+      session = seen_if here setting.moment own;
       is = refl;
       fits = subst (λ (u : UserId). same_user named (Some u) ≡ Ok tt) (sym (seen_user here setting.moment own ∙ ap (λ (o : RootSession). o.user) e)) same;
     }
-session_kept facts root setting user own None named is same who =
+session_kept setting session user own None named is same who =
     record {
-      session = record { session = next_session facts setting.draws; user = user; opened = setting.moment; seen = setting.moment; idle = setting.realm.session.idle; max = setting.realm.session.max };
-      is = rw (same_id-same root.0) refl;
+      session = new_session setting session user;
+      is = refl;
       fits = subst (λ (n : Option UserId). same_user n (Some user) ≡ Ok tt) (sym who) (user_same user);
     }
 
@@ -233,9 +242,31 @@ evidence_puts passing (forms.ConfigureOtp value) name = refl
 evidence_puts passing forms.RecoveryCodes name = refl
 evidence_puts passing forms.VerifyEmail name = refl
 
-completion_puts : (root : RootKey) (tab : TabKey) (setting : Setting) (session : SessionId) (user : UserId) (seen : Bool) (name : List ℕ) → last_of (put_as name) (completion_facts root tab setting session user seen) ≡ None
-completion_puts root tab setting session user true name = refl
-completion_puts root tab setting session user false name = refl
+neither_puts : (name : List ℕ) (one other : List Fact) → last_of (put_as name) one ≡ None → last_of (put_as name) other ≡ None → last_of (put_as name) (one ++ other) ≡ None
+neither_puts name one other h k = last_of_append (put_as name) one other ∙ rw (k, h) refl
+
+levels_put : (setting : Setting) (session : SessionId) (levels : List ℕ) (name : List ℕ) → last_of (put_as name) (levels_recorded setting session levels) ≡ None
+levels_put setting session [] name = refl
+levels_put setting session (level ∷ levels) name = rw (levels_put setting session levels name) refl
+
+beginning_puts : (setting : Setting) (session : SessionId) (root : RootKey) (user : UserId) (live : Option RootSession) (name : List ℕ)
+    → last_of (put_as name) (beginning setting session root user live) ≡ None
+beginning_puts setting session root user None name = refl
+beginning_puts setting session root user (Some live) name = refl
+
+seen_puts : (setting : Setting) (live : Option RootSession) (name : List ℕ) → last_of (put_as name) (seen_now setting live) ≡ None
+seen_puts setting None name = refl
+seen_puts setting (Some live) name = refl
+
+completion_puts : (setting : Setting) (known : KnownTab) (session : SessionId) (user : UserId) (levels : List ℕ) (live : Option RootSession) (name : List ℕ)
+    → last_of (put_as name) (completion_facts setting known user levels session live) ≡ None
+completion_puts setting known session user levels live name =
+    let begun = beginning setting session known.root user live in
+    let reached = levels_recorded setting session levels in
+    let seen = seen_now setting live in
+    let first = neither_puts name begun reached (beginning_puts setting session known.root user live name) (levels_put setting session levels name) in
+    neither_puts name ((begun ++ reached) ++ seen) (events.Completed known.tab user session setting.moment ∷ [])
+    (neither_puts name (begun ++ reached) seen first (seen_puts setting live name)) refl
 
 same_named : (named first : Option UserId) (own : UserId) → same_user (option_or named first) (Some own) ≡ Ok tt → same_user named (Some own) ≡ Ok tt
 same_named (Some user) first own same = same
@@ -248,7 +279,7 @@ finished_check : (facts : List Fact) (moment : ℕ) (known : KnownTab) (post : P
 unfolding check_post
 finished_check facts moment known post code_shown whole same completed = rw (code_shown, whole, same, completed) refl
 
-finished_due : (later : Setting) (post : Post) (finding : Finding) (known : KnownTab) → check_tab later.facts post.root post.tab ≡ Ok known
+finished_due : (later : Setting) (post : Post) (finding : Finding) (known : KnownTab) → check_tab later.facts later.moment post.root post.tab ≡ Ok known
     → check_post later.facts later.moment known post ≡ Err refusals.Finished → due_post later post finding ≡ refused_as_finished known.tab
 unfolding due_post post_in
 finished_due later post finding known is_known finished = rw (is_known, finished) refl
@@ -290,10 +321,16 @@ module _ (setting : Setting) (post : Post) (finding : Finding) (accepted : IsAcc
   opening_later extra state next is =
       ap (tab_state accepted.known.root accepted.known.tab) next ∙ more_state accepted.known.root accepted.known.tab more extra ∙ is
 
-  known_later : (state : TabState) → after.state ≡ state → state.opening ≡ now.state.opening → check_tab later.facts post.root post.tab ≡ Ok after
-  known_later state is same =
-      found_later setting.facts later.facts post.root post.tab accepted.known accepted.is_known
-      (ap (λ (s : TabState). s.opening) is ∙ same ∙ opened_behind setting post finding accepted)
+  -- where it lives later, it is found again
+  known_later : tab_is_live later.moment accepted.known.opening ≡ true → (state : TabState) → after.state ≡ state → state.opening ≡ now.state.opening
+      → check_tab later.facts later.moment post.root post.tab ≡ Ok after
+  known_later live state is same =
+      let known = accepted.known in
+      let b = behind setting post finding accepted in
+      let opened = ap (λ (s : TabState). s.opening) is ∙ same ∙ opened_behind setting post finding accepted in
+      ap (λ (r : Option RootKey). check_tab later.facts later.moment r post.tab) b.known.is_root
+      ∙ ap (λ (t : TabKey). check_tab later.facts later.moment (Some known.root) t) b.known.is_tab
+      ∙ lives later.facts later.moment known.root known.tab known.opening opened live
 
   -- the code was one that the facts count
   code_counted : HasCodesCounted setting.facts → post.code.0.serial ≤ last_tab_serial more
@@ -307,16 +344,16 @@ module _ (setting : Setting) (post : Post) (finding : Finding) (accepted : IsAcc
       subst (λ (n : ℕ). post.code.0.serial ≤ n) (sym same) least
 
   -- a page was shown, with a new code
-  again_shown : HasCodesCounted setting.facts → later.facts ≡ more ++ page_fact accepted.known.tab (next_code more setting.draws) ∷ []
+  again_shown : tab_is_live later.moment accepted.known.opening ≡ true → HasCodesCounted setting.facts → later.facts ≡ more ++ page_fact accepted.known.tab (next_code more setting.draws) ∷ []
       → IsRefused accepted.known.tab (due_post later post later_finding)
-  again_shown counted next =
+  again_shown live counted next =
       let code = next_code more setting.draws in
       let state = with_code now.state code in
       let folded : fold (tab_after accepted.known.root accepted.known.tab) now.state (page_fact accepted.known.tab code ∷ []) ≡ state = rw (same_id-same accepted.known.tab.0) refl in
       let is = opening_later (page_fact accepted.known.tab code ∷ []) state next folded in
       let least = code_counted counted in
       let other : is_code post.code (Some code) ≡ false = other_code post.code code (omega (arith, least)) in
-      again_in later post later_finding after (known_later state is refl)
+      again_in later post later_finding after (known_later live state is refl)
       (λ named current. let shown : is_code post.code (Some code) ≡ true = sym (ap (λ (s : TabState). is_code post.code s.code) is) ∙ current.code_shown in absurd cc)
 
   post_of : IsPostOf accepted.user setting.moment now.state post.form
@@ -333,34 +370,46 @@ module _ (setting : Setting) (post : Post) (finding : Finding) (accepted : IsAcc
       let named = subst (λ (n : Option UserId). IsPostOf accepted.user setting.moment (with_name known.state n) form) b.current.is_named of in
       subst (λ (s : TabState). IsPostOf accepted.user setting.moment s form) (sym b.is_state) named
 
+  -- its execution is passed
+  is_passed : HasPassed more accepted.known.tab accepted.user post.form
+  is_passed =
+      let known = accepted.known in
+      let b = behind setting post finding accepted in
+      let passing : Passing = record { tab = known.tab; user = accepted.user; credential = accepted.credential; moment = setting.moment } in
+      let who = who_of setting.moment known.state in
+      let target = target_of accepted.named who post.form in
+      let asked = asked_in (progress_of setting.facts setting.moment known) in
+      let used = check_uses setting asked accepted.named who (password_for setting.facts target) post.form finding accepted.user accepted.credential b.fitting.is_check in
+      evidence_counts setting.facts passing post.form used
+
   -- nothing was added behind the evidence
-  again_blocked : asked_in (progress_of more setting.moment now) ≡ [] → later.facts ≡ more ++ [] → IsRefused accepted.known.tab (due_post later post later_finding)
-  again_blocked nothing next =
+  again_blocked : tab_is_live later.moment accepted.known.opening ≡ true → later.facts ≡ more ++ [] → IsRefused accepted.known.tab (due_post later post later_finding)
+  again_blocked live next =
       let is_more : later.facts ≡ more = next ∙ append-nil more in
       let lacks = subst (λ (facts : List Fact). (named : Option UserId) → Current facts later.moment (known_over accepted.known facts) post named
       → has_need (asked_in (progress_of facts later.moment (known_over accepted.known facts))) post.form ≡ false) (sym is_more)
-      (λ named current. form_lacks more setting.moment later.moment now accepted.user post.form post_of (whole_behind setting post finding accepted) nothing current.whole) in
-      again_in later post later_finding after (known_later now.state (opening_later [] now.state next refl) refl) lacks
+      (λ named current. form_lacks more setting.moment later.moment now accepted.user post.form post_of (whole_behind setting post finding accepted) is_passed current.whole) in
+      again_in later post later_finding after (known_later live now.state (opening_later [] now.state next refl) refl) lacks
 
   -- the login completed
-  again_completed : (user : UserId) → progress_of more setting.moment now ≡ progresses.Ready user → later.facts ≡ more ++ (completion more setting now user).added
-      → due_post later post later_finding ≡ refused_as_finished accepted.known.tab
-  unfolding completion check_whole progress_of
-  again_completed user is next =
+  again_completed : tab_is_live later.moment accepted.known.opening ≡ true → (user : UserId) (levels : List ℕ) → progress_of more setting.moment now ≡ progresses.Ready user levels
+      → later.facts ≡ more ++ (completion more setting now user levels).added → due_post later post later_finding ≡ refused_as_finished accepted.known.tab
+  unfolding completion check_whole
+  again_completed alive user levels is next =
       let known = accepted.known in
       let b = behind setting post finding accepted in
       let live = live_session setting.moment now.state in
       let session = session_for more setting.draws live in
-      let added = completion_facts known.root known.tab setting session user (is_some live) in
-      let who = (lets_in more known.tab (who_of setting.moment now.state) _ user (ap ready_user is)).is_theirs in
-      let kept = session_kept more known.root setting user now.state.session live now.state.named refl (whole_behind setting post finding accepted) who in
+      let added = completion_facts setting now user levels session live in
+      let who = (lets_in more setting.moment now user (ap ready_user is)).is_theirs in
+      let kept = session_kept setting session user now.state.session live now.state.named refl (whole_behind setting post finding accepted) who in
       let state = with_session now.state (Some kept.session) in
-      let folded = completed_state known.root known.tab setting session user (is_some live) now.state ∙ ap (with_session now.state) kept.is in
+      let folded = completed_state setting now session user levels live now.state ∙ ap (with_session now.state) kept.is in
       let is_state = opening_later added state next folded in
       let passing : Passing = record { tab = known.tab; user = accepted.user; credential = accepted.credential; moment = setting.moment } in
       let names =
       ap (λ (facts : List Fact). named_by facts post.form) next
-      ∙ named_kept post.form more added (λ name. completion_puts known.root known.tab setting session user (is_some live) name)
+      ∙ named_kept post.form more added (λ name. completion_puts setting now session user levels live name)
       ∙ named_kept post.form setting.facts (evidence_of passing post.form) (λ name. evidence_puts passing post.form name)
       ∙ b.current.is_named in
       let fits = subst (λ (s : TabState). same_user s.named (Some kept.session.user) ≡ Ok tt) b.is_state kept.fits in
@@ -371,16 +420,17 @@ module _ (setting : Setting) (post : Post) (finding : Finding) (accepted : IsAcc
       let same_state = subst (λ (s : TabState). same_user accepted.named (user_of (live_session later.moment s)) ≡ Ok tt) (sym is_state) same_live in
       let same = subst (λ (n : Option UserId). same_user n (user_of (live_session later.moment after.state)) ≡ Ok tt) (sym names) same_state in
       let completed = ap (λ (s : TabState). s.completed) is_state in
-      finished_due later post later_finding after (known_later state is_state refl) (finished_check later.facts later.moment after post code_shown whole same completed)
+      finished_due later post later_finding after (known_later alive state is_state refl) (finished_check later.facts later.moment after post code_shown whole same completed)
 
-  again_of_progress : (progress : Progress) → progress_of more setting.moment now ≡ progress → HasCodesCounted setting.facts
+  again_of_progress : tab_is_live later.moment accepted.known.opening ≡ true → (progress : Progress) → progress_of more setting.moment now ≡ progress → HasCodesCounted setting.facts
       → later.facts ≡ more ++ (progress_answer more setting now progress).added → IsRefused accepted.known.tab (due_post later post later_finding)
   unfolding progress_answer
-  again_of_progress (progresses.Ready user) is counted next = finished_answer accepted.known.tab _ (again_completed user is next)
-  again_of_progress (progresses.Asked asked) is counted next = again_shown counted next
-  again_of_progress (progresses.Denied execution) is counted next = again_blocked (ap asked_in is) next
-  again_of_progress (progresses.NotConfigured execution) is counted next = again_blocked (ap asked_in is) next
-  again_of_progress progresses.DeadEnd is counted next = again_blocked (ap asked_in is) next
+  again_of_progress live (progresses.Ready user levels) is counted next = finished_answer accepted.known.tab _ (again_completed live user levels is next)
+  again_of_progress live (progresses.Asked asked) is counted next = again_shown live counted next
+  again_of_progress live (progresses.Denied execution) is counted next = again_blocked live next
+  again_of_progress live (progresses.NotConfigured execution) is counted next = again_blocked live next
+  again_of_progress live progresses.DeadEnd is counted next = again_blocked live next
+  again_of_progress live (progresses.LevelMissed level) is counted next = again_blocked live next
 
   -- what the facts are later
   facts_later : later.facts ≡ setting.facts ++ (due_post setting post finding).added → later.facts ≡ more ++ (tab_answer more setting now).added
@@ -390,32 +440,106 @@ module _ (setting : Setting) (post : Post) (finding : Finding) (accepted : IsAcc
       next ∙ ap (λ (a : Answer). setting.facts ++ a.added) (accepted_due setting post finding accepted)
       ∙ sym (append_assoc setting.facts evidence (tab_answer more setting now).added)
 
-  again : HasCodesCounted setting.facts → later.facts ≡ setting.facts ++ (due_post setting post finding).added → IsRefused accepted.known.tab (due_post later post later_finding)
+  in_its_tab : (P : TabKey → Type 0) → P accepted.known.tab → P post.tab
+  in_its_tab P h = subst P (sym (behind setting post finding accepted).known.is_tab) h
+
+  again_refused : tab_is_live later.moment accepted.known.opening ≡ true → HasCodesCounted setting.facts → later.facts ≡ setting.facts ++ (due_post setting post finding).added
+      → IsRefused post.tab (due_post later post later_finding)
   unfolding tab_answer
-  again counted next = again_of_progress (progress_of more setting.moment now) refl counted (facts_later next)
+  again_refused live counted next =
+      in_its_tab (λ (tab : TabKey). IsRefused tab (due_post later post later_finding))
+      (again_of_progress live (progress_of more setting.moment now) refl counted (facts_later next))
 
-  pub again_refused : HasCodesCounted setting.facts → later.facts ≡ setting.facts ++ (due_post setting post finding).added → IsRefused post.tab (due_post later post later_finding)
-  again_refused counted next =
-      subst (λ (tab : TabKey). IsRefused tab (due_post later post later_finding)) (tab_is setting.facts post.root post.tab accepted.known accepted.is_known) (again counted next)
+  -- ---- once the tab lives no longer
 
-  ready_is : (progress : Progress) (user : UserId) → ready_user progress ≡ Some user → progress ≡ progresses.Ready user
-  ready_is (progresses.Ready found) user h = cc
+  -- what the answer adds doesn't open the tab again
+  opening_kept : (progress : Progress) (state : TabState) → (fold (tab_after accepted.known.root accepted.known.tab) state (progress_answer more setting now progress).added).opening ≡ state.opening
+  unfolding progress_answer completion
+  opening_kept (progresses.Ready user levels) state =
+      let live = live_session setting.moment now.state in
+      ap (λ (s : TabState). s.opening) (completed_state setting now (session_for more setting.draws live) user levels live state)
+  opening_kept (progresses.Asked asked) state = refl
+  opening_kept (progresses.Denied execution) state = refl
+  opening_kept (progresses.NotConfigured execution) state = refl
+  opening_kept progresses.DeadEnd state = refl
+  opening_kept (progresses.LevelMissed level) state = refl
+
+  still_opened : later.facts ≡ setting.facts ++ (due_post setting post finding).added → after.state.opening ≡ Some accepted.known.opening
+  unfolding tab_answer
+  still_opened next =
+      let progress = progress_of more setting.moment now in
+      let added = (progress_answer more setting now progress).added in
+      ap (λ (s : TabState). s.opening) (opening_later added (fold (tab_after accepted.known.root accepted.known.tab) now.state added) (facts_later next) refl)
+      ∙ opening_kept progress now.state ∙ opened_behind setting post finding accepted
+
+  lost : (refusal : Refusal) → check_tab later.facts later.moment (Some accepted.known.root) accepted.known.tab ≡ Err refusal → due_post later post later_finding ≡ refused later.facts None refusal
+  lost refusal h =
+      let b = behind setting post finding accepted in
+      lost_due later post later_finding refusal
+      (ap (λ (r : Option RootKey). check_tab later.facts later.moment r post.tab) b.known.is_root
+      ∙ ap (λ (t : TabKey). check_tab later.facts later.moment (Some accepted.known.root) t) b.known.is_tab ∙ h)
+
+  expired_later : later.facts ≡ setting.facts ++ (due_post setting post finding).added
+      → tab_is_live later.moment accepted.known.opening ≡ false → tab_is_known later.moment accepted.known.opening ≡ true
+      → due_post later post later_finding ≡ only None whats.TabExpired
+  expired_later next dead is_known =
+      let known = accepted.known in
+      lost refusals.TabExpired (expires later.facts later.moment known.root known.tab known.opening (still_opened next) dead is_known)
+
+  forgotten_later : later.facts ≡ setting.facts ++ (due_post setting post finding).added
+      → tab_is_known later.moment accepted.known.opening ≡ false → due_post later post later_finding ≡ only None whats.UnknownTab
+  forgotten_later next gone =
+      let known = accepted.known in
+      lost refusals.UnknownTab (forgets later.facts later.moment known.root known.tab known.opening (still_opened next) gone)
+
+  -- in one way while the tab lives, and then as one that has none
+  answered_again : (Living : Type 0) → (tab_is_live later.moment accepted.known.opening ≡ true → Living) → later.facts ≡ setting.facts ++ (due_post setting post finding).added
+      → IsAnsweredAgain Living setting post later.moment (due_post later post later_finding)
+  answered_again Living while_alive next =
+      record { known = accepted.known; is_known = accepted.is_known; living = while_alive; expired = expired_later next; forgotten = forgotten_later next }
+
+  pub refused_again : HasCodesCounted setting.facts → later.facts ≡ setting.facts ++ (due_post setting post finding).added
+      → IsAnsweredAgain (IsRepeatRefused post.tab (due_post later post later_finding).reply) setting post later.moment (due_post later post later_finding)
+  refused_again counted next = answered_again (IsRepeatRefused post.tab (due_post later post later_finding).reply) (λ live. (again_refused live counted next).reply) next
+
+  nothing_by : (live is_known : Bool) → tab_is_live later.moment accepted.known.opening ≡ live → tab_is_known later.moment accepted.known.opening ≡ is_known
+      → HasCodesCounted setting.facts → later.facts ≡ setting.facts ++ (due_post setting post finding).added → (due_post later post later_finding).added ≡ []
+  nothing_by true is_known l k counted next = (again_refused l counted next).added
+  nothing_by false true l k counted next = ap (λ (a : Answer). a.added) (expired_later next l k)
+  nothing_by false false l k counted next = ap (λ (a : Answer). a.added) (forgotten_later next k)
+
+  pub nothing_again : HasCodesCounted setting.facts → later.facts ≡ setting.facts ++ (due_post setting post finding).added → (due_post later post later_finding).added ≡ []
+  nothing_again counted next = nothing_by (tab_is_live later.moment accepted.known.opening) (tab_is_known later.moment accepted.known.opening) refl refl counted next
+
+  -- ---- a post that completed the login
+
+  record IsReadyFor (progress : Progress) (user : UserId) : Type 0 where
+    levels : List ℕ
+    is : progress ≡ progresses.Ready user levels
+
+  ready_is : (progress : Progress) (user : UserId) → ready_user progress ≡ Some user → IsReadyFor progress user
+  ready_is (progresses.Ready found levels) user h = let e : found ≡ user = cc in record { levels = levels; is = ap (λ (u : UserId). progresses.Ready u levels) e }
   ready_is (progresses.Asked asked) user h = absurd cc
   ready_is (progresses.Denied execution) user h = absurd cc
   ready_is (progresses.NotConfigured execution) user h = absurd cc
   ready_is progresses.DeadEnd user h = absurd cc
+  ready_is (progresses.LevelMissed level) user h = absurd cc
 
-  pub ready_again : (user : UserId) → ready_user (progress_of more setting.moment now) ≡ Some user
+  ready_again : tab_is_live later.moment accepted.known.opening ≡ true → (user : UserId) → ready_user (progress_of more setting.moment now) ≡ Some user
       → later.facts ≡ setting.facts ++ (due_post setting post finding).added → due_post later post later_finding ≡ refused_as_finished post.tab
   unfolding tab_answer progress_answer
-  ready_again user ready next =
-      let is = ready_is (progress_of more setting.moment now) user ready in
-      let added = ap (λ (p : Progress). more ++ (progress_answer more setting now p).added) is in
-      again_completed user is (facts_later next ∙ added) ∙ ap refused_as_finished (tab_is setting.facts post.root post.tab accepted.known accepted.is_known)
+  ready_again live user ready next =
+      let found = ready_is (progress_of more setting.moment now) user ready in
+      let added = ap (λ (p : Progress). more ++ (progress_answer more setting now p).added) found.is in
+      in_its_tab (λ (tab : TabKey). due_post later post later_finding ≡ refused_as_finished tab) (again_completed live user found.levels found.is (facts_later next ∙ added))
+
+  pub finished_again : (user : UserId) → ready_user (progress_of more setting.moment now) ≡ Some user → later.facts ≡ setting.facts ++ (due_post setting post finding).added
+      → IsAnsweredAgain (due_post later post later_finding ≡ refused_as_finished post.tab) setting post later.moment (due_post later post later_finding)
+  finished_again user ready next = answered_again (due_post later post later_finding ≡ refused_as_finished post.tab) (λ live. ready_again live user ready next) next
 
 pub done_again : (setting : Setting) (post : Post) (finding : Finding) (user : UserId) (later : Setting) (later_finding : Finding)
     → done_for (due_post setting post finding).reply.what ≡ Some user → later.facts ≡ setting.facts ++ (due_post setting post finding).added
-    → due_post later post later_finding ≡ refused_as_finished post.tab
+    → IsAnsweredAgain (due_post later post later_finding ≡ refused_as_finished post.tab) setting post later.moment (due_post later post later_finding)
 done_again setting post finding user later later_finding h next =
     let a = answered setting post finding user h in
-    ready_again setting post finding a.accepted later later_finding user a.done next
+    finished_again setting post finding a.accepted later later_finding user a.done next

@@ -1,7 +1,7 @@
 -- No ask spends a code that was spent before, and none spends one twice.
-use Rattle.std.proofs.Common.{◌≡◌, ℕ, Bool, true, false, ◌||◌, List, [], ◌∷◌, ◌++◌, Some, None, refl, sym, ap, subst, ◌∙◌, append_assoc}
+use Rattle.std.proofs.Common.{◌≡◌, ℕ, Bool, true, false, ◌||◌, List, [], ◌∷◌, ◌++◌, Some, None, refl, sym, subst, ◌∙◌, append_assoc}
 use Rattle.std.specs.Prelude.{Option, Result, Ok, Err}
-use Rattle.std.specs.List.{All, list_any, flat_map}
+use Rattle.std.specs.List.{All, list_any}
 use Rattle.std.proofs.lemmas.List.{append-nil}
 use Rattle.std.proofs.lemmas.List.Elements.{All-nil, All-cons, All-head, All-tail}
 use Rattle.std.proofs.lemmas.List.Folds.{list_any-append}
@@ -160,7 +160,7 @@ module _ (setting : Setting) (post : Post) (finding : Finding) (once : AreSpentO
   unfolding due_post post_in post_where
   post_once =
       let facts = setting.facts in
-      settled_once facts facts None (post_in setting post finding) (check_tab facts post.root post.tab) once (λ known is_known.
+      settled_once facts facts None (post_in setting post finding) (check_tab facts setting.moment post.root post.tab) once (λ known is_known.
       settled_once facts facts (Some known.tab) (post_by setting post.form finding known) (check_post facts setting.moment known post) once (λ named is_named.
       let asked = asked_at setting known in
       settled_once facts facts (Some known.tab) (answer_to_check setting known asked post.form) (check_form setting known asked named post.form finding) once (λ check is.

@@ -12,6 +12,7 @@ use Rattle.login_base.specs.declared.id.UserId.{UserId}
 use Rattle.asks.specs.declared.ask.Form.{Form}
 use Rattle.asks.specs.declared.ask.Form.TheVariants as forms
 use Rattle.facts.specs.declared.fact.Fact.{Fact}
+use Rattle.facts.specs.declared.tabs.RootSession.{RootSession}
 use Rattle.facts.specs.declared.tabs.TabState.{TabState}
 use Rattle.account_states.specs.States.{state_of, moves_state}
 use Rattle.account_states.proofs.StateLemmas.{state_kept}
@@ -22,7 +23,9 @@ use Rattle.tab_asks.specs.declared.check.Spent.{Spent}
 use Rattle.tab_asks.specs.declared.check.Spent.TheVariants as spends
 use Rattle.tab_asks.specs.declared.passing.Passing.{Passing}
 use Rattle.tab_asks.specs.Forms.{code_evidence, evidence_of}
-use Rattle.tab_asks.specs.NewTab.{facts_opened, opening_at, opening_fact, new_root_key, new_tab_key}
+use Rattle.tab_asks.specs.declared.place.Place.{Place}
+use Rattle.tab_asks.specs.NewTab.{facts_opened, opening_facts, opening_at, opening_fact}
+use Rattle.tab_asks.specs.Pages.{seen_now}
 
 pub same_id-same : (a : Id) → same_id a a ≡ true
 same_id-same a = rw (eq-eqb a.serial a.serial refl, eq-eqb a.high a.high refl, eq-eqb a.low a.low refl) refl
@@ -32,11 +35,15 @@ more_state root tab old more = sym (tab_state_more root tab (tab_state root tab 
 
 -- ---- behind its opening
 
-pub opened_state : (setting : Setting) (level : ℕ)
-    → (tab_state (new_root_key setting) (new_tab_key setting) (facts_opened setting level)).opening ≡ Some (opening_at setting level)
-opened_state setting level =
-    ap (λ (s : TabState). s.opening) (more_state (new_root_key setting) (new_tab_key setting) setting.facts (opening_fact setting level ∷ []))
-    ∙ rw (same_id-same (new_root_key setting).0, same_id-same (new_tab_key setting).0) refl
+opened_by : (setting : Setting) (place : Place) (live : Option RootSession) (state : TabState)
+    → (fold (tab_after place.root place.tab) state (seen_now setting live ++ opening_fact setting place ∷ [])).opening ≡ Some (opening_at setting place)
+opened_by setting place None state = rw (same_id-same place.root.0, same_id-same place.tab.0) refl
+opened_by setting place (Some own) state = rw (same_id-same place.root.0, same_id-same place.tab.0) refl
+
+pub opened_state : (setting : Setting) (place : Place) → (tab_state place.root place.tab (facts_opened setting place)).opening ≡ Some (opening_at setting place)
+opened_state setting place =
+    ap (λ (s : TabState). s.opening) (more_state place.root place.tab setting.facts (opening_facts setting place))
+    ∙ opened_by setting place place.live (tab_state place.root place.tab setting.facts)
 
 -- ---- behind the evidence of a form
 

@@ -1,17 +1,20 @@
--- What isn't asked after a post isn't asked later.
-use Rattle.std.proofs.Common.{◌≡◌, ℕ, Bool, true, false, ◌||◌, List, [], ◌∷◌, Some, None, refl, sym, ap, subst, ◌∙◌}
+-- A form isn't asked again once its execution is passed.
+use Rattle.std.proofs.Common.{◌≡◌, ℕ, Bool, true, false, ◌&&◌, ◌||◌, List, [], ◌∷◌, Some, None, refl, sym, ap, subst, ◌∙◌}
 use Rattle.std.specs.Prelude.{Option, Ok, if◌then◌else◌}
+use Rattle.std.specs.List.{All}
 use Rattle.std.specs.Option.{option_or}
 use Rattle.std.specs.Str.{bytes_eq}
-use Rattle.std.proofs.lemmas.Bool.{and_right}
+use Rattle.std.proofs.lemmas.Bool.{and_right, or_from}
+use Rattle.std.proofs.lemmas.List.Elements.{All-head, All-tail}
 use Rattle.std.proofs.lemmas.List.Folds.{list_any-append}
-use Rattle.login_base.specs.declared.id.TabKey.{TabKey}
 use Rattle.login_base.specs.declared.id.UserId.{UserId}
 use Rattle.flow_tree.specs.declared.exec.Exec.{Exec}
 use Rattle.flow_tree.specs.declared.exec.Kind.{Kind}
 use Rattle.flow_tree.specs.declared.exec.Kind.TheVariants as kinds
-use Rattle.flow_tree.specs.Flow.{flow_holds, flow_needs}
-use Rattle.flow_tree.specs.Places.{places, kind_among}
+use Rattle.flow_tree.specs.Flow.{has, flow_holds, flow_needs}
+use Rattle.flow_tree.specs.Places.{places, kind_among, same_kind}
+use Rattle.flow_truths.specs.Granted.{is_granted, levels_reached}
+use Rattle.flow_truths.specs.Truth.{cookie_holds}
 use Rattle.realm_data.specs.declared.realm_parts.RealmParts.{RealmParts}
 use Rattle.asks.specs.declared.ask.Form.{Form}
 use Rattle.asks.specs.declared.ask.Form.TheVariants as forms
@@ -22,24 +25,32 @@ use Rattle.facts.specs.declared.tabs.RootSession.{RootSession}
 use Rattle.facts.specs.declared.tabs.TabState.{TabState}
 use Rattle.facts.specs.declared.user_password.UserPassword.{UserPassword}
 use Rattle.facts.specs.Accounts.{account_named}
+use Rattle.facts.specs.Evidence.{has_evidence}
 use Rattle.facts.specs.Realms.{realm_of}
 use Rattle.facts.specs.Tabs.{is_live, live_among, live_session, user_among, who_of}
+use Rattle.login_progress.specs.declared.login.Login.{Login}
 use Rattle.login_progress.specs.declared.known_tab.KnownTab.{KnownTab}
 use Rattle.login_progress.specs.declared.progress.Progress.{Progress}
 use Rattle.login_progress.specs.declared.progress.Progress.TheVariants as progresses
 use Rattle.login_progress.specs.Account.{account_of}
-use Rattle.login_progress.specs.Asked.{asked_as, asked_of, blocked, first_denied, denied_or}
-use Rattle.login_progress.specs.Progress.{asked_or, ready_for, lacking, truths_in, progress_in, progress_under, progress_of, asked_in}
+use Rattle.login_progress.specs.Asked.{can_answer, need_of, asked_as, asked_of, blocked, first_denied, first_not_configured, denied_or, not_configured}
+use Rattle.login_progress.specs.Evidence.{is_posted}
+use Rattle.login_progress.specs.Login.{login_in, truths_in}
+use Rattle.login_progress.specs.Progress.{asked_or, lacking, holding, progress_in, progress_of, asked_in}
 use Rattle.tab_asks.specs.declared.check.Check.TheVariants as checks
 use Rattle.hall_answers.specs.Setting.{Setting}
 use Rattle.tab_asks.specs.declared.check.Credential.{Credential}
-use Rattle.tab_asks.specs.Forms.{named_by, is_of}
+use Rattle.tab_asks.specs.Forms.{named_by, is_need, is_of}
 use Rattle.tab_asks.specs.Post.{has_need, check_of}
 use Rattle.tab_asks.specs.Visit.{same_user, user_of}
 use Rattle.hall_laws.proofs.CodeChecks.{code_fits}
+use Rattle.hall_laws.proofs.EvidenceCounts.{HasPassed}
 use Rattle.hall_laws.proofs.Gates.{same_is}
+use Rattle.hall_laws.proofs.PassedLeaves.{id_is, kind_is, leaf_true, passed_counts, posted_true}
 use Rattle.hall_laws.proofs.PostReadiness.{name_fits, password_fits}
+use Rattle.hall_laws.proofs.Readiness.{under_realm, under_is}
 use Rattle.hall_laws.proofs.TabStates.{with_name}
+use Rattle.hall_laws.proofs.UnneededTruths.{IsLacking, needs_spare}
 
 -- ---- whose login it is later
 
@@ -73,64 +84,138 @@ named_known (Some own) named user is none = cc
 
 -- ---- neither a password nor a code is asked of nobody
 
-unasked_password : (execution password : List ℕ) (id : List ℕ) (kind : Option Kind) → has_need (asked_as None id kind) (forms.Password execution password) ≡ false
-unasked_password execution password id None = refl
-unasked_password execution password id (Some kinds.Allow) = refl
-unasked_password execution password id (Some kinds.Deny) = refl
-unasked_password execution password id (Some kinds.Cookie) = refl
-unasked_password execution password id (Some kinds.Username) = ap (λ b. b || false) (and_right (bytes_eq id execution) false refl)
-unasked_password execution password id (Some kinds.Form) = ap (λ b. b || false) (and_right (bytes_eq id execution) false refl)
-unasked_password execution password id (Some kinds.Password) = refl
-unasked_password execution password id (Some kinds.Otp) = refl
-unasked_password execution password id (Some kinds.Recovery) = refl
+module _ (login : Login) (nobody : login.view.account ≡ None) where
+  unasked_password : (execution password id : List ℕ) (kind : Option Kind) → has_need (asked_as login id kind) (forms.Password execution password) ≡ false
+  unasked_password execution password id None = refl
+  unasked_password execution password id (Some kinds.Allow) = refl
+  unasked_password execution password id (Some kinds.Deny) = refl
+  unasked_password execution password id (Some kinds.Cookie) = refl
+  unasked_password execution password id (Some kinds.Username) = ap (λ b. b || false) (and_right (bytes_eq id execution) false refl)
+  unasked_password execution password id (Some kinds.Form) = ap (λ b. b || false) (and_right (bytes_eq id execution) false refl)
+  unasked_password execution password id (Some kinds.Password) = rw nobody refl
+  unasked_password execution password id (Some kinds.Otp) = rw nobody refl
+  unasked_password execution password id (Some kinds.Recovery) = rw nobody refl
 
-unasked_value : (execution value : List ℕ) (id : List ℕ) (kind : Option Kind) → has_need (asked_as None id kind) (forms.Value execution value) ≡ false
-unasked_value execution value id None = refl
-unasked_value execution value id (Some kinds.Allow) = refl
-unasked_value execution value id (Some kinds.Deny) = refl
-unasked_value execution value id (Some kinds.Cookie) = refl
-unasked_value execution value id (Some kinds.Username) = ap (λ b. (b || b) || false) (and_right (bytes_eq id execution) false refl)
-unasked_value execution value id (Some kinds.Form) = ap (λ b. (b || b) || false) (and_right (bytes_eq id execution) false refl)
-unasked_value execution value id (Some kinds.Password) = refl
-unasked_value execution value id (Some kinds.Otp) = refl
-unasked_value execution value id (Some kinds.Recovery) = refl
+  unasked_value : (execution value id : List ℕ) (kind : Option Kind) → has_need (asked_as login id kind) (forms.Value execution value) ≡ false
+  unasked_value execution value id None = refl
+  unasked_value execution value id (Some kinds.Allow) = refl
+  unasked_value execution value id (Some kinds.Deny) = refl
+  unasked_value execution value id (Some kinds.Cookie) = refl
+  unasked_value execution value id (Some kinds.Username) = ap (λ b. (b || b) || false) (and_right (bytes_eq id execution) false refl)
+  unasked_value execution value id (Some kinds.Form) = ap (λ b. (b || b) || false) (and_right (bytes_eq id execution) false refl)
+  unasked_value execution value id (Some kinds.Password) = rw nobody refl
+  unasked_value execution value id (Some kinds.Otp) = rw nobody refl
+  unasked_value execution value id (Some kinds.Recovery) = rw nobody refl
 
-unasked : (form : Form) → ((id : List ℕ) (kind : Option Kind) → has_need (asked_as None id kind) form ≡ false)
-    → (tree : List Exec) (needs : List (List ℕ)) → has_need (asked_of tree None needs) form ≡ false
+-- ---- what asks none of the needs
+
+-- a need that isn't true asks no such form
+abbrev Lacks : Login → List Exec → List (List ℕ) → Form → Type 0
+Lacks login tree held form = (id : List ℕ) (kind : Option Kind) → kind_among id (places tree) ≡ kind → has held id ≡ false → has_need (asked_as login id kind) form ≡ false
+
+unasked : (login : Login) (tree : List Exec) (held needs : List (List ℕ)) (form : Form) → Lacks login tree held form → All (IsLacking held) needs → has_need (asked_of tree login needs) form ≡ false
 unfolding asked_of
-unasked form never tree [] = refl
-unasked form never tree (id ∷ needs) =
-    list_any-append (λ (need : Need). is_of need form) (asked_as None id (kind_among id (places tree))) (asked_of tree None needs)
-    ∙ ap (λ b. b || has_need (asked_of tree None needs) form) (never id (kind_among id (places tree))) ∙ unasked form never tree needs
+unasked login tree held [] form lacks all = refl
+unasked login tree held (id ∷ needs) form lacks all =
+    let kind = kind_among id (places tree) in
+    list_any-append (λ (need : Need). is_of need form) (asked_as login id kind) (asked_of tree login needs)
+    ∙ ap (λ b. b || has_need (asked_of tree login needs) form) (lacks id kind refl (All-head (IsLacking held) id needs all))
+    ∙ unasked login tree held needs form lacks (All-tail (IsLacking held) id needs all)
 
 asked_in_or : (asked : List Need) (other : Progress) → asked_in other ≡ [] → asked_in (asked_or asked other) ≡ asked
 asked_in_or [] other h = h
 asked_in_or (need ∷ asked) other h = refl
 
-dead_asks : (denied : Option (List ℕ)) → asked_in (denied_or denied progresses.DeadEnd) ≡ []
-dead_asks None = refl
-dead_asks (Some id) = refl
+blocked_asks : (denied missing : Option (List ℕ)) → asked_in (denied_or denied (not_configured missing)) ≡ []
+blocked_asks (Some id) missing = refl
+blocked_asks None None = refl
+blocked_asks None (Some id) = refl
 
-lacking_unasked : (facts : List Fact) (tree : List Exec) (needs : List (List ℕ)) (form : Form) → has_need (asked_of tree None needs) form ≡ false
-    → has_need (asked_in (lacking facts None tree needs)) form ≡ false
-unfolding blocked account_of
-lacking_unasked facts tree needs form never =
-    ap (λ asked. has_need asked form) (asked_in_or (asked_of tree None needs) (blocked tree None needs) (dead_asks (first_denied tree needs))) ∙ never
+lacking_asks : (login : Login) (tree : List Exec) (needs : List (List ℕ)) → asked_in (lacking login tree needs) ≡ asked_of tree login needs
+unfolding blocked
+lacking_asks login tree needs =
+    asked_in_or (asked_of tree login needs) (blocked tree login.view.account needs)
+    (blocked_asks (first_denied tree needs) (first_not_configured tree login.view.account needs))
 
-holds_unasked : (holds : Bool) (other : Progress) (form : Form) → has_need (asked_in other) form ≡ false → has_need (asked_in (if holds then ready_for None else other)) form ≡ false
-holds_unasked true other form h = refl
-holds_unasked false other form h = h
+granted_asks : (granted : Bool) (user : UserId) (levels : List ℕ) (level : ℕ) → asked_in (if granted then progresses.Ready user levels else progresses.LevelMissed level) ≡ []
+granted_asks true user levels level = refl
+granted_asks false user levels level = refl
 
-nobody_unasked : (facts : List Fact) (tab : TabKey) (realm : Option RealmParts) (form : Form) → ((id : List ℕ) (kind : Option Kind) → has_need (asked_as None id kind) form ≡ false)
-    → has_need (asked_in (progress_under facts tab None realm)) form ≡ false
+holding_asks : (login : Login) (held : List (List ℕ)) (tree : List Exec) (who : Option UserId) → asked_in (holding login held tree who) ≡ []
+holding_asks login held tree None = refl
+holding_asks login held tree (Some user) = granted_asks (is_granted login.view held tree) user (levels_reached held login.view.level tree) login.view.level
+
+holds_unasked : (holds : Bool) (one other : Progress) (form : Form) → asked_in one ≡ [] → has_need (asked_in other) form ≡ false → has_need (asked_in (if holds then one else other)) form ≡ false
+holds_unasked true one other form nothing h = ap (λ asked. has_need asked form) nothing
+holds_unasked false one other form nothing h = h
+
+progress_lacks : (facts : List Fact) (moment : ℕ) (known : KnownTab) (who : Option UserId) (realm : Option RealmParts) (form : Form)
+    → ((tree : List Exec) → Lacks (login_in facts moment known who tree) tree (truths_in facts moment known who tree) form)
+    → has_need (asked_in (under_realm facts moment known who realm)) form ≡ false
 unfolding progress_in
-nobody_unasked facts tab None form never = refl
-nobody_unasked facts tab (Some realm) form never =
-    let truths = truths_in facts tab None realm.flow in
-    let needs = flow_needs truths realm.flow in
-    holds_unasked (flow_holds truths realm.flow) (lacking facts None realm.flow needs) form (lacking_unasked facts realm.flow needs form (unasked form never realm.flow needs))
+progress_lacks facts moment known who None form lacks = refl
+progress_lacks facts moment known who (Some realm) form lacks =
+    let tree = realm.flow in
+    let login = login_in facts moment known who tree in
+    let held = truths_in facts moment known who tree in
+    let needs = flow_needs held tree in
+    holds_unasked (flow_holds held tree) (holding login held tree who) (lacking login tree needs) form (holding_asks login held tree who)
+    (ap (λ asked. has_need asked form) (lacking_asks login tree needs) ∙ unasked login tree held needs form (lacks tree) (needs_spare held tree))
 
--- ---- what isn't asked behind the evidence isn't asked later
+-- ---- what is passed isn't asked
+
+module _ (facts : List Fact) (moment : ℕ) (known : KnownTab) (user : UserId) (tree : List Exec) where
+  abbrev login : Login
+  login = login_in facts moment known (Some user) tree
+
+  abbrev held : List (List ℕ)
+  held = truths_in facts moment known (Some user) tree
+
+  -- a passed execution that is given in posts is true
+  passed_true : (id : List ℕ) (kind : Kind) → is_posted kind ≡ true → has_evidence known.tab user id facts ≡ true → kind_among id (places tree) ≡ Some kind → has held id ≡ true
+  unfolding login_in
+  passed_true id kind posted evidence found =
+      leaf_true login.view tree id kind found
+      (posted_true login.view (cookie_holds login.view tree) id kind posted (passed_counts facts known.tab user id kind posted evidence tree found))
+
+  other_need : (need : Need) (execution : List ℕ) (kind : Kind) (named of_kind : Bool) → is_posted kind ≡ true → has_evidence known.tab user execution facts ≡ true
+      → kind_among need.id (places tree) ≡ Some need.kind → has held need.id ≡ false
+      → bytes_eq need.id execution ≡ named → same_kind need.kind kind ≡ of_kind → (named && of_kind) ≡ false
+  other_need need execution kind false of_kind posted evidence found lacking n k = refl
+  other_need need execution kind true false posted evidence found lacking n k = refl
+  other_need need execution kind true true posted evidence found lacking n k =
+      let e = id_is need.id execution n in
+      let here = subst (λ (id : List ℕ). kind_among id (places tree) ≡ Some need.kind) e found ∙ ap Some (kind_is need.kind kind k) in
+      let held_so = passed_true execution kind posted evidence here in
+      let lacking_so = subst (λ (id : List ℕ). has held id ≡ false) e lacking in
+      absurd cc
+
+  no_need : (need : Need) (execution : List ℕ) (kind : Kind) → is_posted kind ≡ true → has_evidence known.tab user execution facts ≡ true
+      → kind_among need.id (places tree) ≡ Some need.kind → has held need.id ≡ false → is_need need execution kind ≡ false
+  no_need need execution kind posted evidence found lacking = other_need need execution kind _ _ posted evidence found lacking refl refl
+
+  no_form : (need : Need) (form : Form) → HasPassed facts known.tab user form → kind_among need.id (places tree) ≡ Some need.kind → has held need.id ≡ false → is_of need form ≡ false
+  no_form need (forms.Username execution name) passed found lacking = no_need need execution kinds.Username refl (passed execution refl) found lacking
+  no_form need (forms.Password execution given) passed found lacking = no_need need execution kinds.Password refl (passed execution refl) found lacking
+  no_form need (forms.NamePassword execution name given) passed found lacking = no_need need execution kinds.Form refl (passed execution refl) found lacking
+  no_form need (forms.Value execution value) passed found lacking =
+      or_from (is_need need execution kinds.Otp) (is_need need execution kinds.Recovery)
+      (no_need need execution kinds.Otp refl (passed execution refl) found lacking) (no_need need execution kinds.Recovery refl (passed execution refl) found lacking)
+  no_form need forms.Terms passed found lacking = refl
+  no_form need (forms.UpdatePassword given) passed found lacking = refl
+  no_form need (forms.ConfigureOtp value) passed found lacking = refl
+  no_form need forms.RecoveryCodes passed found lacking = refl
+  no_form need forms.VerifyEmail passed found lacking = refl
+
+  pub passed_lacks : (form : Form) → HasPassed facts known.tab user form → Lacks login tree held form
+  passed_lacks form passed id None found lacking = refl
+  passed_lacks form passed id (Some kind) found lacking = by_test (can_answer login.view.account kind)
+    where
+      by_test : (b : Bool) → has_need (if b then need_of login.next_code id kind ∷ [] else []) form ≡ false
+      by_test true = ap (λ x. x || false) (no_form (need_of login.next_code id kind) form passed found lacking)
+      by_test false = refl
+
+-- ---- what was passed before isn't asked later
 
 never_asked : (asked : List Need) (form : Form) → ((need : Need) → is_of need form ≡ false) → has_need asked form ≡ false
 never_asked [] form h = refl
@@ -162,48 +247,55 @@ fits_post_of setting asked state password forms.RecoveryCodes finding user crede
 fits_post_of setting asked state password forms.VerifyEmail finding user credential h = tt
 
 module _ (facts : List Fact) (moment later : ℕ) (known : KnownTab) (user : UserId) where
-  -- the executions that are asked of this one at some moment
-  abbrev asked_of_whom : Option UserId → List Need
-  asked_of_whom who = asked_in (progress_under facts known.tab who (realm_of known.opening.version facts))
+  -- the executions that are asked of this one at the later moment
+  abbrev asked_later : Option UserId → List Need
+  asked_later who = asked_in (under_realm facts later known who (realm_of known.opening.version facts))
 
+  whose_later : (form : Form) (who : Option UserId) → who_of later known.state ≡ who → has_need (asked_later who) form ≡ false → has_need (asked_in (progress_of facts later known)) form ≡ false
+  unfolding progress_of
+  whose_later form who is h =
+      ap (λ p. has_need (asked_in p) form) (under_is facts later known (realm_of known.opening.version facts))
+      ∙ ap (λ w. has_need (asked_later w) form) is ∙ h
+
+  -- it is asked neither of the same user, nor of nobody
   lacks_later : (form : Form) (who : Option UserId) → who_of later known.state ≡ who
       → same_user known.state.named (user_of (live_session moment known.state)) ≡ Ok tt → same_user known.state.named (user_of (live_session later known.state)) ≡ Ok tt
-      → who_of moment known.state ≡ Some user → asked_in (progress_of facts moment known) ≡ []
-      → (who_of later known.state ≡ None → has_need (asked_in (progress_of facts later known)) form ≡ false)
+      → who_of moment known.state ≡ Some user → HasPassed facts known.tab user form
+      → (who_of later known.state ≡ None → has_need (asked_later None) form ≡ false)
       → has_need (asked_in (progress_of facts later known)) form ≡ false
-  unfolding progress_of
-  lacks_later form None is before after whose nothing nobody = nobody is
-  lacks_later form (Some found) is before after whose nothing nobody =
+  lacks_later form None is before after whose passed nobody = whose_later form None is (nobody is)
+  lacks_later form (Some found) is before after whose passed nobody =
       let e = same_later known.state.session moment later known.state.named user found before after whose is in
-      ap (λ who. has_need (asked_of_whom who) form) (is ∙ ap Some e ∙ sym whose) ∙ ap (λ asked. has_need asked form) nothing
+      whose_later form (Some user) (is ∙ ap Some e)
+      (progress_lacks facts later known (Some user) (realm_of known.opening.version facts) form (λ tree. passed_lacks facts later known user tree form passed))
 
-  nobody_later : (form : Form) → ((id : List ℕ) (kind : Option Kind) → has_need (asked_as None id kind) form ≡ false)
-      → who_of later known.state ≡ None → has_need (asked_in (progress_of facts later known)) form ≡ false
-  unfolding progress_of
-  nobody_later form never none =
-      ap (λ who. has_need (asked_of_whom who) form) none ∙ nobody_unasked facts known.tab (realm_of known.opening.version facts) form never
+  -- nobody has an account
+  nobody_lacks : (form : Form) → ((login : Login) → login.view.account ≡ None → (id : List ℕ) (kind : Option Kind) → has_need (asked_as login id kind) form ≡ false)
+      → has_need (asked_later None) form ≡ false
+  unfolding login_in account_of
+  nobody_lacks form never =
+      progress_lacks facts later known None (realm_of known.opening.version facts) form (λ tree id kind found lacking. never (login_in facts later known None tree) refl id kind)
 
   named_lacks : (form : Form) → known.state.named ≡ Some user
       → same_user known.state.named (user_of (live_session moment known.state)) ≡ Ok tt → same_user known.state.named (user_of (live_session later known.state)) ≡ Ok tt
-      → asked_in (progress_of facts moment known) ≡ [] → has_need (asked_in (progress_of facts later known)) form ≡ false
-  named_lacks form is before after nothing =
-      lacks_later form (who_of later known.state) refl before after (named_who (live_session moment known.state) known.state.named user is before) nothing
+      → HasPassed facts known.tab user form → has_need (asked_in (progress_of facts later known)) form ≡ false
+  named_lacks form is before after passed =
+      lacks_later form (who_of later known.state) refl before after (named_who (live_session moment known.state) known.state.named user is before) passed
       (λ none. absurd (named_known (live_session later known.state) known.state.named user is none))
 
   pub form_lacks : (form : Form) → IsPostOf user moment known.state form
-      → same_user known.state.named (user_of (live_session moment known.state)) ≡ Ok tt → asked_in (progress_of facts moment known) ≡ []
+      → same_user known.state.named (user_of (live_session moment known.state)) ≡ Ok tt → HasPassed facts known.tab user form
       → same_user known.state.named (user_of (live_session later known.state)) ≡ Ok tt → has_need (asked_in (progress_of facts later known)) form ≡ false
-  unfolding progress_of
-  form_lacks (forms.Username execution name) of before nothing after = named_lacks (forms.Username execution name) of before after nothing
-  form_lacks (forms.NamePassword execution name password) of before nothing after = named_lacks (forms.NamePassword execution name password) of before after nothing
-  form_lacks (forms.Password execution password) of before nothing after =
-      lacks_later (forms.Password execution password) (who_of later known.state) refl before after of nothing
-      (nobody_later (forms.Password execution password) (unasked_password execution password))
-  form_lacks (forms.Value execution value) of before nothing after =
-      lacks_later (forms.Value execution value) (who_of later known.state) refl before after of nothing
-      (nobody_later (forms.Value execution value) (unasked_value execution value))
-  form_lacks forms.Terms of before nothing after = never_asked (asked_in (progress_of facts later known)) forms.Terms (λ need. refl)
-  form_lacks (forms.UpdatePassword password) of before nothing after = never_asked (asked_in (progress_of facts later known)) (forms.UpdatePassword password) (λ need. refl)
-  form_lacks (forms.ConfigureOtp value) of before nothing after = never_asked (asked_in (progress_of facts later known)) (forms.ConfigureOtp value) (λ need. refl)
-  form_lacks forms.RecoveryCodes of before nothing after = never_asked (asked_in (progress_of facts later known)) forms.RecoveryCodes (λ need. refl)
-  form_lacks forms.VerifyEmail of before nothing after = never_asked (asked_in (progress_of facts later known)) forms.VerifyEmail (λ need. refl)
+  form_lacks (forms.Username execution name) of before passed after = named_lacks (forms.Username execution name) of before after passed
+  form_lacks (forms.NamePassword execution name password) of before passed after = named_lacks (forms.NamePassword execution name password) of before after passed
+  form_lacks (forms.Password execution password) of before passed after =
+      let form = forms.Password execution password in
+      lacks_later form (who_of later known.state) refl before after of passed (λ none. nobody_lacks form (λ login nobody. unasked_password login nobody execution password))
+  form_lacks (forms.Value execution value) of before passed after =
+      let form = forms.Value execution value in
+      lacks_later form (who_of later known.state) refl before after of passed (λ none. nobody_lacks form (λ login nobody. unasked_value login nobody execution value))
+  form_lacks forms.Terms of before passed after = never_asked (asked_in (progress_of facts later known)) forms.Terms (λ need. refl)
+  form_lacks (forms.UpdatePassword password) of before passed after = never_asked (asked_in (progress_of facts later known)) (forms.UpdatePassword password) (λ need. refl)
+  form_lacks (forms.ConfigureOtp value) of before passed after = never_asked (asked_in (progress_of facts later known)) (forms.ConfigureOtp value) (λ need. refl)
+  form_lacks forms.RecoveryCodes of before passed after = never_asked (asked_in (progress_of facts later known)) forms.RecoveryCodes (λ need. refl)
+  form_lacks forms.VerifyEmail of before passed after = never_asked (asked_in (progress_of facts later known)) forms.VerifyEmail (λ need. refl)

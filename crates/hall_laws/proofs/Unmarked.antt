@@ -1,7 +1,5 @@
 -- Asks add no mark, and so keep the codes counted.
-use Rattle.std.proofs.Common.{◌≡◌, true, List, [], ◌∷◌, ◌++◌, refl}
-use Rattle.std.specs.List.{All}
-use Rattle.std.proofs.lemmas.List.Elements.{All-nil, All-cons}
+use Rattle.std.proofs.Common.{◌≡◌, true, List, ◌++◌, refl}
 use Rattle.realm_data.specs.declared.realm_parts.RealmParts.{RealmParts}
 use Rattle.asks.specs.declared.ask.Ask.{Ask}
 use Rattle.facts.specs.declared.fact.Fact.{Fact}

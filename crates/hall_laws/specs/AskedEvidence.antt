@@ -32,9 +32,9 @@ pub record IsRightEvidence (setting : Setting) (post : Post) (tab : TabKey) (exe
   pub is_its_tab : tab ≡ post.tab
   -- it is for the form's execution
   pub is_of_form : execution_of post.form ≡ Some execution
-  -- the post's root has the tab
+  -- the post's root has the tab, which lives
   pub known : KnownTab
-  pub is_known : check_tab setting.facts post.root post.tab ≡ Ok known
+  pub is_known : check_tab setting.facts setting.moment post.root post.tab ≡ Ok known
   -- the post's code is the one that the tab showed last
   pub is_shown : known.state.code ≡ Some post.code
   -- the tab asks an execution that the form answers

@@ -1,5 +1,6 @@
 pub mod AskedEvidence
 pub mod Closing
+pub mod Levels
 pub mod Ready
 pub mod Repeats
 pub mod SpentOnce

@@ -15,24 +15,32 @@ use Rattle.asks.specs.declared.reply.What.TheVariants as whats
 use Rattle.facts.specs.declared.tabs.Opening.{Opening}
 use Rattle.facts.specs.declared.tabs.RootSession.{RootSession}
 use Rattle.facts.specs.Realms.{realm_of}
-use Rattle.facts.specs.Tabs.{tab_state, live_session, who_of}
+use Rattle.facts.specs.Tabs.{tab_state, tab_is_live, live_session, who_of}
 use Rattle.account_states.specs.States.{is_closed}
 use Rattle.account_states.specs.Standings.{standing_of}
 use Rattle.hall_answers.specs.Setting.{Setting}
 use Rattle.lockout.specs.Standing.{is_locked}
 use Rattle.login_progress.specs.declared.known_tab.KnownTab.{KnownTab}
-use Rattle.login_progress.specs.Progress.{progress_of, asked_in, truths_in}
+use Rattle.login_progress.specs.Login.{truths_in, is_granted_in}
+use Rattle.login_progress.specs.Progress.{progress_of, asked_in}
 use Rattle.tab_asks.specs.declared.check.Check.TheVariants.{Fits}
 use Rattle.tab_asks.specs.declared.check.Credential.{Credential}
-use Rattle.tab_asks.specs.NewTab.{check_new_tab, facts_opened, new_root_key, new_tab_key}
+use Rattle.tab_asks.specs.declared.place.Place.{Place}
+use Rattle.tab_asks.specs.NewTab.{check_new_tab, facts_opened}
 use Rattle.tab_asks.specs.Post.{check_post, check_form, evidence_by}
 use Rattle.tab_asks.specs.Visit.{check_tab}
+
+-- a tab of a root with this opening, and what the facts say of it
+abbrev pub known_at : RootKey → TabKey → Opening → List Fact → KnownTab
+known_at root tab opening facts = record { root = root; tab = tab; opening = opening; state = tab_state root tab facts }
 
 -- at this moment the facts say all that the login of this tab needs in order to complete for this user
 pub record IsReady (facts : List Fact) (moment : ℕ) (root : RootKey) (tab : TabKey) (user : UserId) : Type 0 where
   -- the root has the tab, by its last opening
   pub opening : Opening
   pub is_opened : (tab_state root tab facts).opening ≡ Some opening
+  -- it lives at the moment
+  pub is_live : tab_is_live moment opening ≡ true
   -- the realm of the version with which it was opened is known
   pub realm : RealmParts
   pub is_realm : realm_of opening.version facts ≡ Some realm
@@ -48,7 +56,10 @@ pub record IsReady (facts : List Fact) (moment : ℕ) (root : RootKey) (tab : Ta
   -- nor closed, by an administrator or for good by its failures
   pub is_enabled : is_closed user facts ≡ false
   -- the realm's flow holds over what is true in the tab for the user
-  pub holds : flow_holds (truths_in facts tab (Some user) realm.flow) realm.flow ≡ true
+  pub holds :
+      flow_holds (truths_in facts moment (known_at root tab opening facts) (Some user) realm.flow) realm.flow ≡ true
+  -- the level that the tab asks is granted to the user
+  pub is_granted : is_granted_in facts moment (known_at root tab opening facts) (Some user) realm.flow ≡ true
 
 -- the user whose login the reply says is complete
 abbrev pub done_for : What → Option UserId
@@ -57,11 +68,11 @@ done_for what = None
 
 -- nothing refuses the open, and the user is ready in the tab that it opens
 pub record IsReadyAtOpening (setting : Setting) (new : NewTab) (user : UserId) : Type 0 where
-  -- the level that it asks
-  pub level : ℕ
-  pub is_level : check_new_tab setting.realm new ≡ Ok level
+  -- where it is opened, and the level that it asks
+  pub place : Place
+  pub is_place : check_new_tab setting new ≡ Ok place
   -- with the opening behind the facts
-  pub ready : IsReady (facts_opened setting level) setting.moment (new_root_key setting) (new_tab_key setting) user
+  pub ready : IsReady (facts_opened setting place) setting.moment place.root place.tab user
 
 -- the executions that a tab asks
 abbrev pub asked_at : Setting → KnownTab → List Need
@@ -71,7 +82,7 @@ asked_at setting known = asked_in (progress_of setting.facts setting.moment know
 pub record IsAccepted (setting : Setting) (post : Post) (finding : Finding) : Type 0 where
   -- its tab
   pub known : KnownTab
-  pub is_known : check_tab setting.facts post.root post.tab ≡ Ok known
+  pub is_known : check_tab setting.facts setting.moment post.root post.tab ≡ Ok known
   -- the user whom its form names, if any
   pub named : Option UserId
   pub is_named : check_post setting.facts setting.moment known post ≡ Ok named

@@ -1,15 +1,20 @@
 -- A post that comes again as the very next ask.
-use Rattle.std.specs.Prelude.{◌≡◌, ℕ, ◌≤◌, Bool, true, false, List, Some, IsTrue}
+use Rattle.std.specs.Prelude.{◌≡◌, ℕ, ◌≤◌, Bool, true, false, List, Some, None, Ok, IsTrue}
 use Rattle.std.specs.List.{All}
 use Rattle.login_base.specs.declared.id.TabKey.{TabKey}
 use Rattle.facts.specs.declared.fact.Fact.{Fact}
 use Rattle.facts.specs.declared.fact.Fact.TheVariants as events
+use Rattle.asks.specs.declared.ask.Post.{Post}
 use Rattle.asks.specs.declared.reply.Reply.{Reply}
 use Rattle.asks.specs.declared.reply.What.{What}
 use Rattle.asks.specs.declared.reply.What.TheVariants as whats
 use Rattle.facts.specs.Serials.{last_tab_serial}
+use Rattle.facts.specs.Tabs.{tab_is_live, tab_is_known}
 use Rattle.hall_answers.specs.declared.answer.Answer.{Answer}
 use Rattle.hall_answers.specs.Answers.{in_tab, only}
+use Rattle.hall_answers.specs.Setting.{Setting}
+use Rattle.login_progress.specs.declared.known_tab.KnownTab.{KnownTab}
+use Rattle.tab_asks.specs.Visit.{check_tab}
 
 -- the serial of the code that a fact shows, 0 where it shows none
 abbrev pub code_serial : Fact → ℕ
@@ -36,3 +41,18 @@ is_repeat_refusal what = false
 pub record IsRepeatRefused (tab : TabKey) (reply : Reply) : Type 0 where
   pub in_its_tab : reply ≡ in_tab tab reply.what
   pub refusal : IsTrue (is_repeat_refusal reply.what)
+
+-- what a post is answered again at a later moment: in one way while its tab lives, and then as one that has none
+pub record IsAnsweredAgain (Living : Type 0) (setting : Setting) (post : Post) (later : ℕ) (answer : Answer)
+    : Type 0 where
+  -- its tab, as it was known to the first post
+  pub known : KnownTab
+  pub is_known : check_tab setting.facts setting.moment post.root post.tab ≡ Ok known
+  -- while the tab lives
+  pub living : tab_is_live later known.opening ≡ true → Living
+  -- once it lives no longer, and is still known: it is expired, and nothing is added
+  pub expired :
+      tab_is_live later known.opening ≡ false → tab_is_known later known.opening ≡ true
+      → answer ≡ only None whats.TabExpired
+  -- once it is forgotten: it is unknown, and nothing is added
+  pub forgotten : tab_is_known later known.opening ≡ false → answer ≡ only None whats.UnknownTab

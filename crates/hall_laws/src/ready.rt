@@ -21,7 +21,10 @@ pub fn page_completes(setting: &Setting<'_>, root: RootKey, tab: TabKey, user: U
 pub fn open_completes(setting: &Setting<'_>, new: &NewTab, user: UserId)
     ensures done { done_for (due_new_tab setting.now new.now).reply.what ≡ Some user
         ↔ IsReadyAtOpening setting.now new.now user }
-{}
+{
+    // The realm keeps its rules: a tab lives for 60 seconds at least.
+    let _kept = setting.realm.parts();
+}
 
 /// A post completes a login where it is accepted, and for the user who is ready in its tab once its
 /// evidence is added; for no other.

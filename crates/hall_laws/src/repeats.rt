@@ -1,7 +1,7 @@
 //! What becomes of a post that comes again as the very next ask.
 ghost use Rattle.std.specs.Prelude.{◌≡◌, ◌++◌, [], Some};
 ghost use Rattle.hall_laws.specs.Ready.{IsAccepted, done_for};
-ghost use Rattle.hall_laws.specs.Repeats.{HasCodesCounted, IsRepeatRefused, refused_as_finished};
+ghost use Rattle.hall_laws.specs.Repeats.{HasCodesCounted, IsAnsweredAgain, IsRepeatRefused, refused_as_finished};
 ghost use Rattle.tab_asks.specs.Post.{due_post};
 
 use facts::{Finding, Post};
@@ -9,7 +9,8 @@ use hall_answers::Setting;
 use login_base::UserId;
 
 /// A post that completed a login and comes again, under any realm in force, at any moment and with
-/// any draws and finding, is refused as finished, and adds nothing.
+/// any draws and finding, is refused as finished while its tab lives, then as expired, and then as
+/// of an unknown tab. It adds nothing.
 pub fn completed_post_again(
     setting: &Setting<'_>,
     post: &Post,
@@ -20,12 +21,13 @@ pub fn completed_post_again(
 )
     requires done { done_for (due_post setting.now post.now finding.now).reply.what ≡ Some user }
     requires next { later.now.facts ≡ setting.now.facts ++ (due_post setting.now post.now finding.now).added }
-    ensures again { due_post later.now post.now later_finding.now ≡ refused_as_finished post.now.tab }
+    ensures again { IsAnsweredAgain (due_post later.now post.now later_finding.now ≡ refused_as_finished post.now.tab)
+        setting.now post.now later.now.moment (due_post later.now post.now later_finding.now) }
 {}
 
 /// A post that was accepted and comes again, under any realm in force, at any moment and with any
-/// draws and finding, is refused: its code is stale, its user another, its tab finished, or its form
-/// not asked. It adds nothing.
+/// draws and finding, is refused. While its tab lives, its code is stale, its user another, its tab
+/// finished, or its form not asked; then the tab is expired, and then unknown. It adds nothing.
 pub fn accepted_post_again(
     setting: &Setting<'_>,
     post: &Post,
@@ -36,6 +38,8 @@ pub fn accepted_post_again(
     requires accepted { IsAccepted setting.now post.now finding.now }
     requires codes { HasCodesCounted setting.now.facts }
     requires next { later.now.facts ≡ setting.now.facts ++ (due_post setting.now post.now finding.now).added }
-    ensures refused { IsRepeatRefused post.now.tab (due_post later.now post.now later_finding.now).reply }
+    ensures refused { IsAnsweredAgain
+        (IsRepeatRefused post.now.tab (due_post later.now post.now later_finding.now).reply)
+        setting.now post.now later.now.moment (due_post later.now post.now later_finding.now) }
     ensures added { (due_post later.now post.now later_finding.now).added ≡ [] }
 {}
