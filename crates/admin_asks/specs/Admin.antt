@@ -9,26 +9,24 @@ use Rattle.asks.specs.declared.ask.Access.TheVariants as ways
 use Rattle.asks.specs.declared.finding.Finding.{Finding}
 use Rattle.hall_answers.specs.declared.answer.Answer.{Answer}
 use Rattle.hall_answers.specs.declared.refusal.Refusal.{Refusal}
-use Rattle.hall_answers.specs.declared.refusal.Refusal.TheVariants.{NotBuilt, WrongKey}
-use Rattle.hall_answers.specs.Refusals.{refused, settled}
+use Rattle.hall_answers.specs.declared.refusal.Refusal.TheVariants.{WrongKey}
+use Rattle.hall_answers.specs.Refusals.{settled}
 use Rattle.hall_answers.specs.Setting.{Setting}
 use Rattle.admin_asks.specs.Closing.{due_enable, due_disable, due_unlock}
 use Rattle.admin_asks.specs.Ending.{due_revoke, due_sweep}
 use Rattle.admin_asks.specs.OtpRemove.{due_otp_remove}
 use Rattle.admin_asks.specs.OtpSet.{due_otp_set}
 use Rattle.admin_asks.specs.RealmPut.{due_realm_put}
+use Rattle.admin_asks.specs.Require.{due_require}
 use Rattle.admin_asks.specs.Roles.{due_roles}
 use Rattle.admin_asks.specs.SetPassword.{due_set_password}
+use Rattle.admin_asks.specs.Token.{due_token}
 use Rattle.admin_asks.specs.UserAdd.{due_user_add}
 
 -- an administrator comes in locally, or with the realm's key
 unfoldable pub check_key : RealmParts → Access → Result (Unit {0}) Refusal
 check_key realm ways.Local = Ok tt
 check_key realm (ways.Key digest) = if bytes_eq digest realm.admin_key then Ok tt else Err WrongKey
-
--- a verb that isn't built yet is malformed
-abbrev pub not_built : Setting → Answer
-not_built setting = refused setting.facts None NotBuilt
 
 abbrev pub due_verb : Setting → AdminVerb → Finding → Answer
 due_verb setting (verbs.RealmPut realm) finding = due_realm_put setting realm
@@ -37,11 +35,11 @@ due_verb setting (verbs.Roles name roles) finding = due_roles setting name roles
 due_verb setting (verbs.SetPassword name password) finding = due_set_password setting name finding
 due_verb setting (verbs.OtpSet name secret) finding = due_otp_set setting name secret
 due_verb setting (verbs.OtpRemove name) finding = due_otp_remove setting name
-due_verb setting (verbs.Require name action) finding = not_built setting
+due_verb setting (verbs.Require name action) finding = due_require setting name action
 due_verb setting (verbs.Enable name) finding = due_enable setting name
 due_verb setting (verbs.Disable name) finding = due_disable setting name
 due_verb setting (verbs.Unlock name) finding = due_unlock setting name
-due_verb setting (verbs.Token name action life) finding = not_built setting
+due_verb setting (verbs.Token name action life) finding = due_token setting name action life
 due_verb setting (verbs.Revoke session) finding = due_revoke setting session
 due_verb setting verbs.Sweep finding = due_sweep setting
 

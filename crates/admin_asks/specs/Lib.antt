@@ -5,8 +5,9 @@ pub mod Ending
 pub mod Named
 pub mod OtpRemove
 pub mod OtpSet
-pub mod Passwords
 pub mod RealmPut
+pub mod Require
 pub mod Roles
 pub mod SetPassword
+pub mod Token
 pub mod UserAdd

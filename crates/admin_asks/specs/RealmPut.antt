@@ -1,22 +1,21 @@
 -- What the putting of a realm is due.
-use Rattle.std.specs.Prelude.{ℕ, ◌+◌, List, [], ◌∷◌, ◌++◌, Option, Some, None, Result, Ok, Err, codes, decimal, if◌then◌else◌}
+use Rattle.std.specs.Prelude.{ℕ, ◌+◌, List, [], ◌∷◌, ◌++◌, Option, Some, None, Result, Ok, Err, codes, decimal}
 use Rattle.realm_data.specs.declared.realm_parts.RealmParts.{RealmParts}
-use Rattle.realm_data.specs.RealmBuilt.{is_built}
 use Rattle.asks.specs.declared.reply.What.TheVariants as whats
 use Rattle.facts.specs.declared.fact.Fact.{Fact}
 use Rattle.facts.specs.declared.fact.Fact.TheVariants as events
 use Rattle.facts.specs.Realms.{last_version}
 use Rattle.hall_answers.specs.declared.answer.Answer.{Answer}
 use Rattle.hall_answers.specs.declared.refusal.Refusal.{Refusal}
-use Rattle.hall_answers.specs.declared.refusal.Refusal.TheVariants.{RealmRefused, NotYet}
+use Rattle.hall_answers.specs.declared.refusal.Refusal.TheVariants.{RealmRefused}
 use Rattle.hall_answers.specs.Answers.{reply_in}
 use Rattle.hall_answers.specs.Refusals.{settled}
 use Rattle.hall_answers.specs.Setting.{Setting}
 
--- the text was a realm, and one that can be played
+-- the text was a realm
 unfoldable pub check_realm : Option RealmParts → Result RealmParts Refusal
 check_realm None = Err RealmRefused
-check_realm (Some realm) = if is_built realm then Ok realm else Err NotYet
+check_realm (Some realm) = Ok realm
 
 abbrev pub version_text : ℕ → List ℕ
 version_text version = codes "realm version=" ++ decimal version

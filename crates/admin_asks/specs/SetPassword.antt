@@ -7,14 +7,13 @@ use Rattle.facts.specs.Serials.{last_stored_serial}
 use Rattle.hall_answers.specs.declared.answer.Answer.{Answer}
 use Rattle.hall_answers.specs.Refusals.{settled}
 use Rattle.hall_answers.specs.Setting.{Setting}
-use Rattle.admin_asks.specs.Account.{password_facts}
 use Rattle.admin_asks.specs.Named.{check_user, done}
-use Rattle.admin_asks.specs.Passwords.{derived}
+use Rattle.hall_answers.specs.Passwords.{derived, password_facts}
 
 -- the derived password is the user's from now on, with the next serial
 abbrev pub answer_to_set_password : List Fact → List ℕ → Finding → UserId → Answer
 answer_to_set_password facts name finding user =
-    done name (password_facts user (last_stored_serial facts + 1) (derived finding))
+    done name (password_facts user (last_stored_serial facts + 1) (derived finding) None)
 
 unfoldable pub due_set_password : Setting → List ℕ → Finding → Answer
 due_set_password setting name finding =

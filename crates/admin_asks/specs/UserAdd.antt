@@ -1,5 +1,5 @@
 -- What the adding of a user is due.
-use Rattle.std.specs.Prelude.{ℕ, ◌+◌, Bool, true, false, List, [], ◌∷◌, ◌++◌, None, Result, Ok, Err, is_some, codes, decimal, if◌then◌else◌}
+use Rattle.std.specs.Prelude.{ℕ, ◌+◌, true, List, ◌++◌, None, Result, Ok, Err, is_some, codes, decimal, if◌then◌else◌}
 use Rattle.login_base.specs.declared.id.UserId.{UserId}
 use Rattle.asks.specs.declared.admin.NewUser.{NewUser}
 use Rattle.facts.specs.declared.fact.Fact.{Fact}
@@ -9,21 +9,13 @@ use Rattle.facts.specs.Accounts.{account_named}
 use Rattle.facts.specs.Serials.{last_stored_serial}
 use Rattle.hall_answers.specs.declared.answer.Answer.{Answer}
 use Rattle.hall_answers.specs.declared.refusal.Refusal.{Refusal}
-use Rattle.hall_answers.specs.declared.refusal.Refusal.TheVariants.{NotBuilt, UserTaken, TooManyUsers}
+use Rattle.hall_answers.specs.declared.refusal.Refusal.TheVariants.{UserTaken, TooManyUsers}
 use Rattle.hall_answers.specs.Answers.{reply_in}
 use Rattle.hall_answers.specs.Refusals.{◌>>=◌, settled}
 use Rattle.hall_answers.specs.Setting.{Setting}
 use Rattle.account_states.specs.Count.{has_room}
 use Rattle.admin_asks.specs.Account.{GivenSecrets, account_facts}
-use Rattle.admin_asks.specs.Passwords.{derived}
-
-abbrev pub has_some : {A : Type 0} → List A → Bool
-has_some [] = false
-has_some (x ∷ xs) = true
-
--- no action can be given to a user yet
-unfoldable pub check_built : NewUser → Result (Unit {0}) Refusal
-check_built new = if has_some new.actions then Err NotBuilt else Ok tt
+use Rattle.hall_answers.specs.Passwords.{derived}
 
 -- no account has the name
 unfoldable pub check_name_free : List Fact → List ℕ → Result (Unit {0}) Refusal
@@ -36,7 +28,6 @@ check_room facts = if has_room facts then Ok tt else Err TooManyUsers
 -- the new account, or the first refusal
 unfoldable pub check_new_user : List Fact → NewUser → Result UserId Refusal
 check_new_user facts new = do
-  built ← check_built new
   free ← check_name_free facts new.name
   room ← check_room facts
   Ok (record { 0 = last_stored_serial facts + 1 })
@@ -48,12 +39,12 @@ user_text name user = codes "user name=" ++ name ++ codes " id=" ++ decimal user
 abbrev pub given_by : NewUser → Finding → GivenSecrets
 given_by new finding = record { password = derived finding; otp = new.otp; recovery = None }
 
--- the account is added, with the password and the secret of one-time codes that the ask sets
+-- the account is added, with the password, the secret of one-time codes and the actions that the ask gives
 abbrev pub answer_to_new_user : NewUser → Finding → UserId → Answer
 answer_to_new_user new finding user =
     record {
       reply = reply_in None (whats.Told (user_text new.name user));
-      added = account_facts user new.name new.roles true (given_by new finding);
+      added = account_facts user new.name new.roles true (given_by new finding) new.actions;
     }
 
 unfoldable pub due_user_add : Setting → NewUser → Finding → Answer

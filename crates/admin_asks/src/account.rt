@@ -1,8 +1,9 @@
 ghost use Rattle.std.specs.Prelude.{◌≡◌, ◌<◌, ◌-◌, ◌^◌, ◌++◌, Some, OnOk};
-ghost use Rattle.admin_asks.specs.Account.{disabled_facts, password_facts, otp_facts, recovery_facts, secret_facts, account_facts};
+ghost use Rattle.admin_asks.specs.Account.{disabled_facts, otp_facts, recovery_facts, secret_facts, action_facts, account_facts};
 
 use crate::given_secrets::{GivenSecrets, count};
-use facts::{Fact, OtpSecret, PasswordHash, RecoveryDigests, Secret, SecretKind};
+use facts::{Action, Fact, OtpSecret, RecoveryDigests, Secret, SecretKind};
+use hall_answers::add_password;
 use login_base::{Duplicate, Memory, Name, Sequence, UserId};
 use std::alloc::Global;
 
@@ -13,27 +14,6 @@ fn add_disabled(added: &mut Sequence<Fact>, user: UserId, enabled: bool) -> Resu
         Ok(())
     } else {
         added.push(Fact::Disabled { user })
-    }
-}
-
-/// Adds a password, where there is one, that no tab sets.
-pub(crate) fn add_password(
-    added: &mut Sequence<Fact>,
-    user: UserId,
-    serial: u64,
-    password: &Option<PasswordHash>,
-) -> Result<(), Memory>
-    ensures { OnOk result (added.new ≡ added.old ++ password_facts user serial password.now) }
-{
-    match password {
-        Some(hash) => added.push(Fact::SecretSet {
-            user,
-            kind: SecretKind::Password,
-            serial,
-            secret: Secret::Password { hash: *hash },
-            by: None,
-        }),
-        None => Ok(()),
     }
 }
 
@@ -111,7 +91,7 @@ fn add_secrets(
     let last = user.0;
     let passwords = count(&given.password);
     let otps = count(given.otp);
-    add_password(added, user, last + 1, &given.password)?;
+    add_password(added, user, last + 1, &given.password, None)?;
     add_otp(alloc, added, user, last + passwords + 1, given.otp)?;
     add_recovery(
         alloc,
@@ -122,8 +102,18 @@ fn add_secrets(
     )
 }
 
-/// Adds the facts of a new account: it is put, closed where it isn't enabled, and given its
-/// secrets, whose serials come after the user's.
+/// Adds that each of these actions is required of the user, in their order.
+fn add_actions(added: &mut Sequence<Fact>, user: UserId, actions: &[Action]) -> Result<(), Memory>
+    ensures { OnOk result (added.new ≡ added.old ++ action_facts user actions.now) }
+{
+    for kind in actions {
+        added.push(Fact::ActionSet { user, kind: *kind })?;
+    }
+    Ok(())
+}
+
+/// Adds the facts of a new account: it is put, closed where it isn't enabled, given its secrets,
+/// whose serials come after the user's, and its actions.
 pub fn add_account(
     alloc: Global,
     added: &mut Sequence<Fact>,
@@ -132,9 +122,10 @@ pub fn add_account(
     roles: &Sequence<Name>,
     enabled: bool,
     given: &GivenSecrets<'_>,
+    actions: &[Action],
 ) -> Result<(), Memory>
     requires serial { user.0 < 2 ^ 64 - 4 }
-    ensures ok { OnOk result (added.new ≡ added.old ++ account_facts user name.now roles.now enabled given.now) }
+    ensures ok { OnOk result (added.new ≡ added.old ++ account_facts user name.now roles.now enabled given.now actions.now) }
 {
     added.push(Fact::UserPut {
         user,
@@ -142,5 +133,6 @@ pub fn add_account(
         roles: roles.duplicate(alloc)?,
     })?;
     add_disabled(added, user, enabled)?;
-    add_secrets(alloc, added, user, given)
+    add_secrets(alloc, added, user, given)?;
+    add_actions(added, user, actions)
 }

@@ -1,15 +1,17 @@
 ghost use Rattle.std.specs.Prelude.{◌≡◌, ◌-◌, ◌^◌, IfOk};
 ghost use Rattle.hall_answers.specs.HasSerials.{HasSerials};
 ghost use Rattle.admin_asks.specs.Admin.{check_key, due_verb, due_admin};
-ghost use Rattle.admin_asks.specs.Passwords.{IsKeepable};
+ghost use Rattle.hall_answers.specs.Passwords.{IsKeepable};
 
 use crate::closing::{due_disable, due_enable, due_unlock};
 use crate::ending::{due_revoke, due_sweep};
 use crate::otp_remove::due_otp_remove;
 use crate::otp_set::due_otp_set;
 use crate::realm_put::due_realm_put;
+use crate::require::due_require;
 use crate::roles::due_roles;
 use crate::set_password::due_set_password;
+use crate::token::due_token;
 use crate::user_add::due_user_add;
 use facts::{Access, AdminVerb, Finding, Realm};
 use hall_answers::{Answer, Refusal, Setting, refused};
@@ -49,15 +51,8 @@ fn due_verb<L: Ledger>(
         AdminVerb::Roles { name, roles } => due_roles(setting, name, roles, steps),
         AdminVerb::Revoke { session } => due_revoke(setting, *session, steps),
         AdminVerb::Sweep => due_sweep(setting, steps),
-        AdminVerb::Require { .. } | AdminVerb::Token { .. } => {
-            refused(
-                setting.alloc,
-                &setting.facts(),
-                None,
-                Refusal::NotBuilt,
-                steps,
-            )
-        }
+        AdminVerb::Require { name, action } => due_require(setting, name, *action, steps),
+        AdminVerb::Token { name, action, life } => due_token(setting, name, *action, *life, steps),
     }
 }
 

@@ -10,10 +10,11 @@ mod given_secrets;
 mod named;
 mod otp_remove;
 mod otp_set;
-mod passwords;
 mod realm_put;
+mod require;
 mod roles;
 mod set_password;
+mod token;
 mod user_add;
 
 pub use account::add_account;

@@ -10,16 +10,15 @@ use login_base::{Duplicate, Memory, Sequence, Steps};
 use std::alloc::Global;
 use std::sync::ledger::Ledger;
 
-/// The text was a realm, and one that can be played.
+/// The text was a realm.
 #[tactic(auto, unfolding(crate::specs::RealmPut::check_realm))]
 fn check_realm(realm: &Option<Realm>) -> Result<&Realm, Refusal>
     ensures ok { IfOk result (λ kept. check_realm realm.now ≡ Ok kept.now) }
     ensures err { IfErr result (λ refusal. check_realm realm.now ≡ Err refusal) }
 {
     match realm {
+        Some(realm) => Ok(realm),
         None => Err(Refusal::RealmRefused),
-        Some(realm) if realm.built() => Ok(realm),
-        Some(_) => Err(Refusal::NotYet),
     }
 }
 

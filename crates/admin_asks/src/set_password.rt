@@ -1,14 +1,12 @@
 ghost use Rattle.std.specs.Prelude.{◌≡◌, ◌-◌, ◌^◌, IfOk};
 ghost use Rattle.hall_answers.specs.HasSerials.{HasSerials};
-ghost use Rattle.admin_asks.specs.Passwords.{IsKeepable};
+ghost use Rattle.hall_answers.specs.Passwords.{IsKeepable};
 ghost use Rattle.admin_asks.specs.SetPassword.{answer_to_set_password, due_set_password};
 
-use crate::account::add_password;
 use crate::named::{check_user, done};
-use crate::passwords::derived;
 use fact_scans::last_stored_serial;
 use facts::{Facts, Finding};
-use hall_answers::{Answer, Setting, refused};
+use hall_answers::{Answer, Setting, add_password, derived, refused};
 use login_base::{Memory, Name, Sequence, Steps, UserId};
 use std::alloc::Global;
 use std::sync::ledger::Ledger;
@@ -27,7 +25,13 @@ fn answer_to_set_password(
 {
     let mut added = Sequence::new(alloc);
     let password = derived(finding);
-    add_password(&mut added, user, last_stored_serial(facts) + 1, &password)?;
+    add_password(
+        &mut added,
+        user,
+        last_stored_serial(facts) + 1,
+        &password,
+        None,
+    )?;
     done(alloc, name, added)
 }
 

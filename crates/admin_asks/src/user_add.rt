@@ -1,29 +1,17 @@
 ghost use Rattle.std.specs.Prelude.{◌≡◌, ◌<◌, ◌≤◌, ◌-◌, ◌^◌, IfOk};
 ghost use Rattle.hall_answers.specs.HasSerials.{HasSerials};
-ghost use Rattle.admin_asks.specs.Passwords.{IsKeepable};
-ghost use Rattle.admin_asks.specs.UserAdd.{check_built, check_name_free, check_room, check_new_user, user_text, answer_to_new_user, due_user_add};
+ghost use Rattle.hall_answers.specs.Passwords.{IsKeepable};
+ghost use Rattle.admin_asks.specs.UserAdd.{check_name_free, check_room, check_new_user, user_text, answer_to_new_user, due_user_add};
 
 use crate::account::add_account;
 use crate::given_secrets::GivenSecrets;
-use crate::passwords::derived;
 use account_states::has_room;
 use fact_scans::{account_named, last_stored_serial};
 use facts::{Facts, Finding, NewUser, What};
-use hall_answers::{Answer, Refusal, Setting, refused};
+use hall_answers::{Answer, Refusal, Setting, derived, refused};
 use login_base::{Memory, Name, Sequence, Steps, UserId};
 use std::alloc::Global;
 use std::sync::ledger::Ledger;
-
-/// No action can be given to a user yet.
-#[tactic(auto, unfolding(crate::specs::UserAdd::check_built))]
-fn check_built(new: &NewUser) -> Result<(), Refusal>
-    ensures { result ≡ check_built new.now }
-{
-    if !new.actions.is_empty() {
-        return Err(Refusal::NotBuilt);
-    }
-    Ok(())
-}
 
 /// No account has the name.
 #[tactic(auto, unfolding(crate::specs::UserAdd::check_name_free))]
@@ -68,9 +56,6 @@ fn check_new_user<L: Ledger>(
     ensures user { IfOk result (λ user. user ≡ check_new_user facts.now new.now) }
     ensures small { IfOk result (λ user. IfOk user (λ user. user.0 ≤ 2 ^ 63 - 7)) }
 {
-    if let Err(refusal) = check_built(new) {
-        return Ok(Err(refusal));
-    }
     if let Err(refusal) = check_name_free(facts, &new.name, steps) {
         return Ok(Err(refusal));
     }
@@ -92,7 +77,8 @@ fn user_text(alloc: Global, name: &Name, user: UserId) -> Result<Sequence<u8>, M
     Ok(Sequence::from_vec(text))
 }
 
-/// The account is added, with the password and the secret of one-time codes that the ask sets.
+/// The account is added, with the password, the secret of one-time codes and the actions that the
+/// ask gives.
 fn answer_to_new_user(
     alloc: Global,
     new: &NewUser,
@@ -110,7 +96,16 @@ fn answer_to_new_user(
         otp: &new.otp,
         recovery: &None,
     };
-    add_account(alloc, &mut added, user, &new.name, &new.roles, true, &given)?;
+    add_account(
+        alloc,
+        &mut added,
+        user,
+        &new.name,
+        &new.roles,
+        true,
+        &given,
+        new.actions.as_slice(),
+    )?;
     Ok(Answer::plain(What::Told { text }, added))
 }
 

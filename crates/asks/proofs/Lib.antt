@@ -1,1 +1,2 @@
 pub mod PasswordLemmas
+pub mod RangeLemmas

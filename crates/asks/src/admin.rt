@@ -1,4 +1,4 @@
-ghost use Rattle.std.specs.Prelude.{◌≡◌, Some, None, if◌then◌else◌};
+ghost use Rattle.std.specs.Prelude.{◌≡◌, ◌≤◌, Some, None, if◌then◌else◌};
 ghost use Rattle.asks.specs.Ranges.{is_life};
 
 use login_base::{Name, Sequence, SessionId};
@@ -37,8 +37,10 @@ impl Life {
     }
 
     /// The life in seconds, 1 to 31,536,000.
+    #[tactic(auto, using(crate::proofs::RangeLemmas::life_most))]
     pub fn seconds(&self) -> u64
         ensures seconds { result ≡ self.now }
+        ensures most { result ≤ 31536000 }
     {
         self.seconds
     }

@@ -19,6 +19,4 @@ pub enum Rule {
     NoSuchSession,
     /// The text is no realm.
     RealmRefused,
-    /// The realm has steps or users that the service can't play yet.
-    NotYet,
 }

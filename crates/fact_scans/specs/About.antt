@@ -3,9 +3,11 @@ use Rattle.std.proofs.Common.{◌≡◌, ℕ, Bool, true, false, ◌&&◌, ◌||
 use Rattle.login_base.specs.IdText.{same_id}
 use Rattle.login_base.specs.declared.id.Id.{Id}
 use Rattle.login_base.specs.declared.id.TabKey.{TabKey}
+use Rattle.login_base.specs.declared.id.TokenKey.{TokenKey}
 use Rattle.login_base.specs.declared.id.UserId.{UserId}
 use Rattle.conditions.specs.declared.secret_kind.SecretKind.{SecretKind}
 use Rattle.conditions.specs.declared.secret_kind.SecretKind.TheVariants as kinds
+use Rattle.asks.specs.declared.admin.TokenAction.{TokenAction}
 use Rattle.facts.specs.declared.fact.Fact.{Fact}
 use Rattle.facts.specs.declared.fact.Fact.TheVariants as events
 use Rattle.facts.specs.declared.subject.Subject.{Subject}
@@ -14,9 +16,16 @@ use Rattle.facts.specs.Moments.{used_by}
 use Rattle.facts.specs.Realms as realms
 use Rattle.facts.specs.Secrets.{password_set, change_of}
 use Rattle.facts.specs.Spent.{step_spent, number_after}
-use Rattle.facts.specs.Subjects.{subject_of, is_realm, is_account, is_of_user, is_login_in, is_of_secret, is_other}
+use Rattle.facts.specs.Subjects.{subject_of, is_realm, is_account, is_of_user, is_login_in, is_of_secret, is_token, is_of_token, is_other}
+use Rattle.facts.specs.Tokens.{token_by}
+use Rattle.fact_scans.specs.declared.actions.Pending.{Pending}
 use Rattle.fact_scans.specs.declared.evidence.Counting.{Counting}
+use Rattle.fact_scans.specs.Carrying.{pending_after, spent_after, tokens_after}
 use Rattle.fact_scans.specs.Counting.{counting_after}
+
+-- an id of another serial is another one
+other_id : (a b : Id) → (a.serial == b.serial) ≡ false → same_id a b ≡ false
+other_id a b h = rw h refl
 
 -- ---- accounts
 
@@ -55,6 +64,29 @@ pub of_numbers : (serial last : ℕ) (fact : Fact) → is_of_secret serial (subj
 of_numbers serial last (events.SpentRecovery credential number) h = rw h refl
 of_numbers serial last fact h = refl
 
+-- ---- actions and tokens
+
+pub of_pending : (user : UserId) (p : Pending) (fact : Fact) → is_of_user user (subject_of fact) ≡ false → pending_after user p fact ≡ p
+of_pending user p (events.ActionSet of kind) h = rw h refl
+of_pending user p (events.ActionDone of kind) h = rw h refl
+of_pending user p fact h = refl
+
+pub of_token : (key : TokenKey) (kind : TokenAction) (fact : Fact) → is_of_token key (subject_of fact) ≡ false → token_by key kind fact ≡ None
+of_token key kind (events.TokenMade of user own expiry) h = rw (other_id of.0 key.0 h) refl
+of_token key kind fact h = refl
+
+or_false : (x : Bool) → (x || false) ≡ x
+or_false true = refl
+or_false false = refl
+
+pub of_spending : (key : TokenKey) (spent : Bool) (fact : Fact) → is_of_token key (subject_of fact) ≡ false → spent_after key spent fact ≡ spent
+of_spending key spent (events.SpentToken of) h = rw (other_id of.0 key.0 h) (or_false spent)
+of_spending key spent fact h = or_false spent
+
+pub of_tokens : (n : ℕ) (fact : Fact) → is_token (subject_of fact) ≡ false → tokens_after n fact ≡ n
+of_tokens n (events.TokenMade key user kind expiry) h = absurd cc
+of_tokens n fact h = refl
+
 -- ---- realms and marks
 
 pub of_version : (version : ℕ) (fact : Fact) → is_realm (subject_of fact) ≡ false → realms.put_as version fact ≡ None
@@ -70,9 +102,6 @@ of_mark fact h = refl
 -- it is about logins of the user in the tab, or about the user's secrets
 abbrev pub is_evidence : TabKey → UserId → Subject → Bool
 is_evidence tab user subject = is_login_in tab user subject || is_of_user user subject
-
-other_id : (a b : Id) → (a.serial == b.serial) ≡ false → same_id a b ≡ false
-other_id a b h = rw h refl
 
 middle : (x y z : Bool) → y ≡ false → (x && y && z) ≡ false
 middle true false z h = refl

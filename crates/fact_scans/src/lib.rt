@@ -3,6 +3,7 @@
 #![tactic(auto)]
 
 mod accounts;
+mod actions;
 mod evidence;
 mod moments;
 mod passwords;
@@ -14,9 +15,11 @@ mod spent;
 mod tabs;
 #[cfg(test)]
 mod tests;
+mod tokens;
 mod user_secrets;
 
 pub use accounts::{account_named, is_disabled, name_of, roles_of};
+pub use actions::{Pending, first_pending};
 pub use evidence::has_evidence;
 pub use moments::last_used_moment;
 pub use passwords::password_of;
@@ -26,4 +29,5 @@ pub use serials::{last_stored_serial, last_tab_serial};
 pub use sessions::{ended_by, seen_at, session_after};
 pub use spent::{codes_spent, spent_steps};
 pub use tabs::{tab_state, tab_state_with};
+pub use tokens::{has_token_room, is_token_spent, token_made};
 pub use user_secrets::{otp_of, recovery_of};

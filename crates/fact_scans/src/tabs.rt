@@ -4,7 +4,7 @@ ghost use Rattle.login_base.specs.IdText.{same_id};
 
 use crate::scan::{FoldAbout, fold_kept};
 use crate::sessions::session_after;
-use facts::{Fact, Facts, Fold, Opening, Subject, TabState, fold_in};
+use facts::{Fact, Facts, Fold, Opening, Page, Subject, TabState, fold_in};
 use login_base::{RootKey, Steps, TabKey, same_id};
 use std::sync::ledger::Ledger;
 
@@ -60,7 +60,18 @@ impl Fold for TabOf {
                 carried.opening = self.opening(root, new, carried.opening);
                 carried.completed = false;
             }
-            Fact::Rendered { tab, code, .. } if self.is_tab(tab) => carried.code = Some(*code),
+            Fact::Rendered {
+                tab,
+                code,
+                action,
+                offer,
+            } if self.is_tab(tab) => {
+                carried.page = Some(Page {
+                    code: *code,
+                    action: *action,
+                    offer: *offer,
+                });
+            }
             Fact::Named { tab, user } if self.is_tab(tab) => carried.named = Some(*user),
             Fact::Completed { tab, .. } if self.is_tab(tab) => carried.completed = true,
             Fact::Session { .. } | Fact::Seen { .. } | Fact::SessionEnd { .. } => {
@@ -96,7 +107,7 @@ pub fn tab_state<L: Ledger>(
 {
     let nothing = TabState {
         opening: None,
-        code: None,
+        page: None,
         named: None,
         completed: false,
         session: None,

@@ -1,14 +1,17 @@
 ghost use Rattle.login_base.specs.Steps.{IsBlank};
 
 use crate::{
-    account_named, current_realm, has_evidence, is_disabled, last_stored_serial, last_tab_serial,
-    last_used_moment, last_version, name_of, password_of, realm_of, roles_of, tab_state,
-    tab_state_with,
+    account_named, current_realm, first_pending, has_evidence, has_token_room, is_disabled,
+    is_token_spent, last_stored_serial, last_tab_serial, last_used_moment, last_version, name_of,
+    password_of, realm_of, roles_of, tab_state, tab_state_with, token_made,
 };
-use facts::{Chronicle, Fact, Facts, PasswordHash, Realm, RealmParts, Secret, SecretKind};
+use facts::{
+    Action, Chronicle, Fact, Facts, PasswordHash, Realm, RealmParts, Secret, SecretKind,
+    TokenAction,
+};
 use login_base::{
-    Code, Duplicate, Id, Memory, Moment, Name, RootKey, Sequence, Steps, TabKey, UserId, discard,
-    read_name,
+    Code, Duplicate, Id, Memory, Moment, Name, RootKey, Sequence, Steps, TabKey, TokenKey, UserId,
+    discard, read_name,
 };
 use std::alloc::Global;
 use std::marker::Brand;
@@ -189,7 +192,7 @@ fn says_of_tabs<L: Ledger, R: Abort>(rt: &R, chronicle: &Chronicle, blank: Blank
     let facts = Facts::of(chronicle);
     let state = tab_state(&facts, root(), tab(), &mut steps);
     assert_eq!(rt; state.opening.map_or(9, |opening| opening.level), 0);
-    assert_eq!(rt; state.code, Some(Code(id(5))));
+    assert_eq!(rt; state.code(), Some(Code(id(5))));
     assert_eq!(rt; state.who(Moment::clamped(9)), None);
     assert!(rt; !state.completed);
     let other = tab_state(&facts, root(), TabKey(id(9)), &mut steps);
@@ -229,7 +232,7 @@ fn newer<L: Ledger, R: Abort>(rt: &R, chronicle: &Chronicle, blank: Blank)
     }];
     let newer = tab_state(&Facts::with(chronicle, &opened), root, tab, &mut steps);
     assert_eq!(rt; newer.opening.map_or(0, |opening| opening.level), 2);
-    assert_eq!(rt; newer.code, None);
+    assert_eq!(rt; newer.code(), None);
 }
 
 #[test]
@@ -340,5 +343,93 @@ fn counters_stand_at_their_last_values(rt: HostRuntime) -> Result<(), Fail> {
     assert_eq!(rt; last_tab_serial(&facts), 5);
     assert_eq!(rt; last_stored_serial(&facts), 5);
     assert_eq!(rt; last_moment::<Brand>(&chronicle, Blank::new(1)), 4);
+    Ok(())
+}
+
+/// The first action that is pending for a user.
+fn first<L: Ledger>(chronicle: &Chronicle, user: UserId, blank: Blank) -> Option<Action>
+    requires blank { IsBlank blank L.name L.parts }
+{
+    let mut steps = Steps::<L>::new(blank);
+    first_pending(&Facts::of(chronicle), user, &mut steps)
+}
+
+#[test]
+fn actions_are_asked_in_their_order_until_they_are_done(rt: HostRuntime) -> Result<(), Fail> {
+    let mut chronicle = chronicle(rt.alloc())?;
+    let user = ANN;
+    assert_eq!(rt; first::<Brand>(&chronicle, user, Blank::new(1)), None);
+    let kind = Action::UpdatePassword;
+    add(&mut chronicle, Fact::ActionSet { user, kind })?;
+    assert_eq!(rt; first::<Brand>(&chronicle, user, Blank::new(1)), Some(kind));
+    let earlier = Action::VerifyEmail;
+    add(
+        &mut chronicle,
+        Fact::ActionSet {
+            user,
+            kind: earlier,
+        },
+    )?;
+    assert_eq!(rt;
+        first::<Brand>(&chronicle, user, Blank::new(1)),
+        Some(earlier)
+    );
+    assert_eq!(rt; first::<Brand>(&chronicle, UserId(5), Blank::new(1)), None);
+    add(
+        &mut chronicle,
+        Fact::ActionDone {
+            user,
+            kind: earlier,
+        },
+    )?;
+    assert_eq!(rt; first::<Brand>(&chronicle, user, Blank::new(1)), Some(kind));
+    add(
+        &mut chronicle,
+        Fact::ActionDone {
+            user: UserId(5),
+            kind,
+        },
+    )?;
+    assert_eq!(rt; first::<Brand>(&chronicle, user, Blank::new(1)), Some(kind));
+    add(&mut chronicle, Fact::ActionDone { user, kind })?;
+    assert_eq!(rt; first::<Brand>(&chronicle, user, Blank::new(1)), None);
+    Ok(())
+}
+
+/// What the facts say of tokens: one was made to verify, and wasn't followed.
+fn says_of_tokens<L: Ledger, R: Abort>(rt: &R, chronicle: &Chronicle, blank: Blank)
+    requires blank { IsBlank blank L.name L.parts }
+{
+    let mut steps = Steps::<L>::new(blank);
+    let (key, kind) = (TokenKey(id(6)), TokenAction::VerifyEmail);
+    let facts = Facts::of(chronicle);
+    let made = token_made(&facts, key, kind, &mut steps);
+    assert_eq!(rt; made.map_or(0, |token| token.expiry), 900);
+    assert_eq!(rt; made.map_or(0, |token| token.user.0), 4);
+    assert!(rt; token_made(&facts, key, TokenAction::UpdatePassword, &mut steps).is_none());
+    assert!(rt; token_made(&facts, TokenKey(id(7)), kind, &mut steps).is_none());
+    assert!(rt; !is_token_spent(&facts, key, &mut steps));
+    let other = [Fact::SpentToken {
+        key: TokenKey(id(7)),
+    }];
+    assert!(rt; !is_token_spent(&Facts::with(chronicle, &other), key, &mut steps));
+    let followed = [Fact::SpentToken { key }];
+    assert!(rt; is_token_spent(&Facts::with(chronicle, &followed), key, &mut steps));
+    assert!(rt; has_token_room(&facts, &mut steps));
+}
+
+#[test]
+fn a_token_is_made_for_one_action_and_is_spent_once_followed(rt: HostRuntime) -> Result<(), Fail> {
+    let mut chronicle = chronicle(rt.alloc())?;
+    add(
+        &mut chronicle,
+        Fact::TokenMade {
+            key: TokenKey(id(6)),
+            user: ANN,
+            kind: TokenAction::VerifyEmail,
+            expiry: 900,
+        },
+    )?;
+    says_of_tokens::<Brand, HostRuntime>(&rt, &chronicle, Blank::new(1));
     Ok(())
 }

@@ -1,5 +1,6 @@
 pub mod About
 pub mod Accounts
+pub mod Actions
 pub mod Evidence
 pub mod Kept
 pub mod Levels
@@ -13,3 +14,4 @@ pub mod Sessions
 pub mod Spent
 pub mod Subjects
 pub mod Tabs
+pub mod Tokens

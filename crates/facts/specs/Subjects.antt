@@ -3,6 +3,7 @@ use Rattle.std.specs.Prelude.{ℕ, Bool, true, false, ◌&&◌, ◌==◌, Some, 
 use Rattle.login_base.specs.declared.id.RootKey.{RootKey}
 use Rattle.login_base.specs.declared.id.SessionId.{SessionId}
 use Rattle.login_base.specs.declared.id.TabKey.{TabKey}
+use Rattle.login_base.specs.declared.id.TokenKey.{TokenKey}
 use Rattle.login_base.specs.declared.id.UserId.{UserId}
 use Rattle.facts.specs.declared.fact.Fact.{Fact}
 use Rattle.facts.specs.declared.fact.Fact.TheVariants as events
@@ -15,8 +16,8 @@ subject_of (events.UserPut user name roles) = subjects.User user.0
 subject_of (events.SecretSet user kind serial secret by) = subjects.User user.0
 subject_of (events.ActionSet user kind) = subjects.User user.0
 subject_of (events.ActionDone user kind) = subjects.User user.0
-subject_of (events.TokenMade key user kind expiry) = subjects.Other
-subject_of (events.SpentToken key) = subjects.Other
+subject_of (events.TokenMade key user kind expiry) = subjects.Token key.0.serial
+subject_of (events.SpentToken key) = subjects.Token key.0.serial
 subject_of (events.Enabled user) = subjects.User user.0
 subject_of (events.Disabled user) = subjects.User user.0
 subject_of (events.Failed user moment) = subjects.User user.0
@@ -45,6 +46,7 @@ concerns root tab (subjects.Opening of serial) = serial == tab.0.serial
 concerns root tab (subjects.Login serial user) = serial == tab.0.serial
 concerns root tab (subjects.Root serial session) = serial == root.0.serial
 concerns root tab (subjects.Session session) = true
+concerns root tab (subjects.Token serial) = false
 concerns root tab subjects.Other = false
 
 -- it can be about the root: its tabs, or its session
@@ -57,6 +59,7 @@ is_of_root root (subjects.Opening serial tab) = serial == root.0.serial
 is_of_root root (subjects.Login serial user) = false
 is_of_root root (subjects.Root serial session) = serial == root.0.serial
 is_of_root root (subjects.Session session) = true
+is_of_root root (subjects.Token serial) = false
 is_of_root root subjects.Other = false
 
 -- it is about the opening of some tab
@@ -100,6 +103,16 @@ is_login_in tab user subject = false
 abbrev pub is_of_secret : ℕ → Subject → Bool
 is_of_secret serial (subjects.Secret own) = own == serial
 is_of_secret serial subject = false
+
+-- it is about some token
+abbrev pub is_token : Subject → Bool
+is_token (subjects.Token serial) = true
+is_token subject = false
+
+-- it is about the token of this key
+abbrev pub is_of_token : TokenKey → Subject → Bool
+is_of_token key (subjects.Token serial) = serial == key.0.serial
+is_of_token key subject = false
 
 -- it is about none of these
 abbrev pub is_other : Subject → Bool

@@ -1,5 +1,5 @@
 -- What the facts say of a tab: fact by fact.
-use Rattle.std.specs.Prelude.{ℕ, ◌+◌, ◌-◌, ◌*◌, Bool, true, false, ◌&&◌, nat_lt, List, Option, Some, None, fold, if◌then◌else◌}
+use Rattle.std.specs.Prelude.{ℕ, ◌+◌, ◌-◌, ◌*◌, Bool, true, false, ◌&&◌, nat_lt, List, Option, Some, None, option_map, fold, if◌then◌else◌}
 use Rattle.login_base.specs.IdText.{same_id}
 use Rattle.login_base.specs.declared.id.Code.{Code}
 use Rattle.login_base.specs.declared.id.RootKey.{RootKey}
@@ -9,6 +9,7 @@ use Rattle.login_base.specs.declared.id.UserId.{UserId}
 use Rattle.facts.specs.declared.fact.Fact.{Fact}
 use Rattle.facts.specs.declared.fact.Fact.TheVariants as events
 use Rattle.facts.specs.declared.tabs.Opening.{Opening}
+use Rattle.facts.specs.declared.tabs.Page.{Page}
 use Rattle.facts.specs.declared.tabs.RootSession.{RootSession}
 use Rattle.facts.specs.declared.tabs.TabState.{TabState}
 
@@ -65,10 +66,10 @@ opening_after root tab own (events.Opened of opened version level life moment) =
     then Some (record { version = version; level = level; life = life; moment = moment }) else own
 opening_after root tab own fact = own
 
--- the code that was shown last in it
-abbrev pub code_after : TabKey → Option Code → Fact → Option Code
-code_after tab own (events.Rendered of code action offer) = if same_id of.0 tab.0 then Some code else own
-code_after tab own fact = own
+-- the page that was shown last in it
+abbrev pub page_after : TabKey → Option Page → Fact → Option Page
+page_after tab own (events.Rendered of code action offer) = if same_id of.0 tab.0 then Some (record { code = code; action = action; offer = offer }) else own
+page_after tab own fact = own
 
 -- the user that was named last in it
 abbrev pub named_after : TabKey → Option UserId → Fact → Option UserId
@@ -85,7 +86,7 @@ abbrev pub tab_after : RootKey → TabKey → TabState → Fact → TabState
 tab_after root tab own fact =
     record {
       opening = opening_after root tab own.opening fact;
-      code = code_after tab own.code fact;
+      page = page_after tab own.page fact;
       named = named_after tab own.named fact;
       completed = completed_after tab own.completed fact;
       session = session_after root own.session fact;
@@ -93,11 +94,15 @@ tab_after root tab own fact =
 
 -- nothing is known of it
 abbrev pub no_tab : TabState
-no_tab = record { opening = None; code = None; named = None; completed = false; session = None }
+no_tab = record { opening = None; page = None; named = None; completed = false; session = None }
 
 -- what is known of a tab of a root
 unfoldable pub tab_state : RootKey → TabKey → List Fact → TabState
 tab_state root tab facts = fold (tab_after root tab) no_tab facts
+
+-- the code of the page that was shown last
+abbrev pub shown_code : TabState → Option Code
+shown_code tab = option_map (λ (page : Page). page.code) tab.page
 
 -- the session that the root has now
 abbrev pub live_session : ℕ → TabState → Option RootSession

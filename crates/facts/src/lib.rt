@@ -15,6 +15,7 @@ mod realm_put;
 mod secret;
 mod subject;
 mod tabs;
+mod token;
 mod user_otp;
 mod user_password;
 mod user_recovery;
@@ -39,7 +40,8 @@ pub use realm_data::{
 pub use realm_put::RealmPut;
 pub use secret::Secret;
 pub use subject::Subject;
-pub use tabs::{Opening, RootSession, TabState};
+pub use tabs::{Opening, Page, RootSession, TabState};
+pub use token::Token;
 pub use user_otp::UserOtp;
 pub use user_password::UserPassword;
 pub use user_recovery::UserRecovery;

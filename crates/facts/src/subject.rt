@@ -11,11 +11,13 @@ ghost use Rattle.facts.specs.Subjects.{
   is_of_user,
   is_login_in,
   is_of_secret,
+  is_token,
+  is_of_token,
   is_other,
 };
 
 use crate::fact::Fact;
-use login_base::{RootKey, SessionId, TabKey, UserId};
+use login_base::{RootKey, SessionId, TabKey, TokenKey, UserId};
 
 /// Of what a fact can say something. It is kept beside the fact, so that a question needs to read
 /// those facts alone that can have an answer.
@@ -37,6 +39,8 @@ pub enum Subject {
     Root { root: u64, session: u64 },
     /// Of the session with this serial, in whatever root.
     Session(u64),
+    /// Of the token with this serial.
+    Token(u64),
     /// Of something else.
     Other,
 }
@@ -84,7 +88,8 @@ impl Subject {
             | Fact::Seen { session, .. }
             | Fact::Level { session, .. }
             | Fact::SessionEnd { session } => Subject::Session(session.0.serial),
-            Fact::TokenMade { .. } | Fact::SpentToken { .. } | Fact::Mark { .. } => Subject::Other,
+            Fact::TokenMade { key, .. } | Fact::SpentToken { key } => Subject::Token(key.0.serial),
+            Fact::Mark { .. } => Subject::Other,
         }
     }
 
@@ -98,7 +103,11 @@ impl Subject {
             | Subject::Login { tab: serial, .. } => serial == tab.0.serial,
             Subject::Root { root: serial, .. } => serial == root.0.serial,
             Subject::Session(_) => true,
-            Subject::Realm | Subject::User(_) | Subject::Secret(_) | Subject::Other => false,
+            Subject::Realm
+            | Subject::User(_)
+            | Subject::Secret(_)
+            | Subject::Token(_)
+            | Subject::Other => false,
         }
     }
 
@@ -116,6 +125,7 @@ impl Subject {
             | Subject::Secret(_)
             | Subject::Tab(_)
             | Subject::Login { .. }
+            | Subject::Token(_)
             | Subject::Other => false,
         }
     }
@@ -189,7 +199,21 @@ impl Subject {
         matches!(self, Subject::Secret(own) if own == serial)
     }
 
-    /// Whether it is something else than a realm, an account, a secret, a tab or a session.
+    /// Whether it is a token.
+    pub fn is_token(self) -> bool
+        ensures value { result ≡ is_token self }
+    {
+        matches!(self, Subject::Token(_))
+    }
+
+    /// Whether it is the token of this key.
+    pub fn is_of_token(self, key: TokenKey) -> bool
+        ensures value { result ≡ is_of_token key self }
+    {
+        matches!(self, Subject::Token(serial) if serial == key.0.serial)
+    }
+
+    /// Whether it is something else than a realm, an account, a secret, a tab, a session or a token.
     pub fn is_other(self) -> bool
         ensures value { result ≡ is_other self }
     {

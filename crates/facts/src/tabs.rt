@@ -1,7 +1,8 @@
 ghost use Rattle.std.specs.Prelude.{◌≡◌, ◌<◌};
-ghost use Rattle.facts.specs.Tabs.{is_within_lives, tab_is_live, tab_is_known, is_live, live_session, who_of};
+ghost use Rattle.facts.specs.Tabs.{is_within_lives, tab_is_live, tab_is_known, is_live, shown_code, live_session, who_of};
 
 use login_base::{Code, Moment, SessionId, UserId};
+use realm_data::Action;
 
 /// With what a tab was opened: the version of the realm, the asked level, its life in milliseconds,
 /// and when.
@@ -60,13 +61,22 @@ impl RootSession {
     }
 }
 
+/// A page of a tab as it was shown: its code, the action that it asks, if any, and the offer of the ask
+/// that made it.
+#[derive(Clone, Copy, Debug, PartialEq, Eq)]
+pub struct Page {
+    pub code: Code,
+    pub action: Option<Action>,
+    pub offer: [u8; 32],
+}
+
 /// What is known of a tab of a root.
 #[derive(Clone, Copy, Debug, PartialEq, Eq)]
 pub struct TabState {
     /// None where the root has no such tab.
     pub opening: Option<Opening>,
-    /// The code that was shown last.
-    pub code: Option<Code>,
+    /// The page that was shown last.
+    pub page: Option<Page>,
     /// The user that was named last.
     pub named: Option<UserId>,
     /// The tab has completed after its opening.
@@ -76,6 +86,16 @@ pub struct TabState {
 }
 
 impl TabState {
+    /// The code of the page that was shown last.
+    pub fn code(&self) -> Option<Code>
+        ensures value { result ≡ shown_code self.now }
+    {
+        match &self.page {
+            Some(page) => Some(page.code),
+            None => None,
+        }
+    }
+
     /// The session that is live in the root at the moment `now`.
     pub fn live_session(&self, now: Moment) -> Option<RootSession>
         ensures value { result ≡ live_session now self.now }

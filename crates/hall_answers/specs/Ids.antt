@@ -5,6 +5,7 @@ use Rattle.login_base.specs.declared.id.RootKey.{RootKey}
 use Rattle.login_base.specs.declared.id.TabKey.{TabKey}
 use Rattle.login_base.specs.declared.id.Code.{Code}
 use Rattle.login_base.specs.declared.id.SessionId.{SessionId}
+use Rattle.login_base.specs.declared.id.TokenKey.{TokenKey}
 use Rattle.login_base.specs.declared.draws.Draws.{Draws}
 use Rattle.facts.specs.declared.fact.Fact.{Fact}
 use Rattle.facts.specs.Serials.{last_tab_serial, last_stored_serial}
@@ -29,6 +30,10 @@ code_at serial draws = record { 0 = id_at serial 4 draws }
 abbrev pub session_at : ℕ → Draws → SessionId
 session_at serial draws = record { 0 = id_at serial 6 draws }
 
+-- so has a token
+abbrev pub token_at : ℕ → Draws → TokenKey
+token_at serial draws = record { 0 = id_at serial 6 draws }
+
 -- a new code has the serial after the last one of roots, tabs and codes
 abbrev pub next_code : List Fact → Draws → Code
 next_code facts draws = code_at (last_tab_serial facts + 1) draws
@@ -36,3 +41,7 @@ next_code facts draws = code_at (last_tab_serial facts + 1) draws
 -- a new session has the serial after the last one of users, secrets, sessions and tokens
 abbrev pub next_session : List Fact → Draws → SessionId
 next_session facts draws = session_at (last_stored_serial facts + 1) draws
+
+-- a new token has the next of the same serials
+abbrev pub next_token : List Fact → Draws → TokenKey
+next_token facts draws = token_at (last_stored_serial facts + 1) draws

@@ -25,7 +25,6 @@ who_named facts user = record { id = user; name = unwrap_or (name_of user facts)
 
 -- what a refusal says
 abbrev pub what_of : List Fact → Refusal → What
-what_of facts refusals.NotBuilt = whats.BadForm (codes "verb")
 what_of facts refusals.WrongKey = whats.AdminRefused rules.WrongKey
 what_of facts refusals.UserTaken = whats.AdminRefused rules.UserTaken
 what_of facts refusals.TooManyUsers = whats.AdminRefused rules.TooManyUsers
@@ -33,7 +32,7 @@ what_of facts refusals.NoSuchUser = whats.AdminRefused rules.NoSuchUser
 what_of facts refusals.NothingThere = whats.AdminRefused rules.NothingThere
 what_of facts refusals.AccountDisabled = whats.AdminRefused rules.AccountDisabled
 what_of facts refusals.RealmRefused = whats.AdminRefused rules.RealmRefused
-what_of facts refusals.NotYet = whats.AdminRefused rules.NotYet
+what_of facts refusals.TooManyTokens = whats.AdminRefused rules.TooManyTokens
 what_of facts refusals.NoSuchSession = whats.AdminRefused rules.NoSuchSession
 what_of facts refusals.UnknownClient = whats.UnknownClient
 what_of facts refusals.LevelUnknown = whats.LevelUnknown
@@ -48,6 +47,9 @@ what_of facts refusals.NotAsked = whats.NotAsked
 what_of facts (refusals.Locked until) = whats.Locked until
 what_of facts refusals.Disabled = whats.Disabled
 what_of facts (refusals.CredentialMoved had now) = whats.CredentialMoved had now
+what_of facts refusals.TokenUnknown = whats.TokenUnknown
+what_of facts refusals.TokenSpent = whats.TokenSpent
+what_of facts (refusals.TokenExpired expiry) = whats.TokenExpired expiry
 
 -- what a refused ask is due, in a tab or in none: the refusal alone
 abbrev pub refused : List Fact → Option TabKey → Refusal → Answer

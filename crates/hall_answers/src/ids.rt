@@ -1,10 +1,10 @@
 ghost use Rattle.std.specs.Prelude.{◌≡◌, ◌<◌, ◌^◌};
 ghost use Rattle.hall_answers.specs.HasSerials.{HasSerials};
-ghost use Rattle.hall_answers.specs.Ids.{id_at, root_key, tab_key, code_at, session_at, next_code, next_session};
+ghost use Rattle.hall_answers.specs.Ids.{id_at, root_key, tab_key, code_at, session_at, token_at, next_code, next_session, next_token};
 
 use fact_scans::{last_stored_serial, last_tab_serial};
 use facts::Facts;
-use login_base::{Code, Draws, Id, RootKey, SessionId, TabKey};
+use login_base::{Code, Draws, Id, RootKey, SessionId, TabKey, TokenKey};
 
 /// The id of a serial, with the draws at two places.
 fn id_at(serial: u64, place: usize, draws: &Draws) -> Id
@@ -42,6 +42,12 @@ fn session_at(serial: u64, draws: &Draws) -> SessionId
     SessionId(id_at(serial, 6, draws))
 }
 
+fn token_at(serial: u64, draws: &Draws) -> TokenKey
+    ensures { result ≡ token_at serial draws.now }
+{
+    TokenKey(id_at(serial, 6, draws))
+}
+
 /// A new code.
 pub fn next_code(facts: &Facts<'_>, draws: &Draws) -> Code
     requires serials { HasSerials facts.now (2 ^ 63) }
@@ -56,4 +62,12 @@ pub fn next_session(facts: &Facts<'_>, draws: &Draws) -> SessionId
     ensures value { result ≡ next_session facts.now draws.now }
 {
     session_at(last_stored_serial(facts) + 1, draws)
+}
+
+/// The key of a new token.
+pub fn next_token(facts: &Facts<'_>, draws: &Draws) -> TokenKey
+    requires serials { HasSerials facts.now (2 ^ 63) }
+    ensures value { result ≡ next_token facts.now draws.now }
+{
+    token_at(last_stored_serial(facts) + 1, draws)
 }

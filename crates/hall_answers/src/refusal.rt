@@ -3,8 +3,6 @@ use login_base::{Code, UserId};
 /// Why an ask is refused.
 #[derive(Clone, Copy, Debug, PartialEq, Eq)]
 pub enum Refusal {
-    /// The ask has a part that isn't built yet.
-    NotBuilt,
     /// The administrator's key isn't the realm's.
     WrongKey,
     /// An account has the name already.
@@ -19,8 +17,8 @@ pub enum Refusal {
     AccountDisabled,
     /// The text is no realm.
     RealmRefused,
-    /// The realm can't be played yet.
-    NotYet,
+    /// As many tokens were made as may ever be.
+    TooManyTokens,
     /// There is no such session, or it has been ended.
     NoSuchSession,
     /// The realm has no such client.
@@ -41,7 +39,7 @@ pub enum Refusal {
     OtherUser { tab: UserId, session: UserId },
     /// The tab has completed.
     Finished,
-    /// The execution isn't asked, or takes another form.
+    /// The execution isn't asked, or takes another form; or the action isn't the one that is asked.
     NotAsked,
     /// The account of the user concerned is locked before this moment, in milliseconds.
     Locked { until: u64 },
@@ -49,4 +47,10 @@ pub enum Refusal {
     Disabled,
     /// The password was checked against another one than the user's.
     CredentialMoved { had: u64, now: u64 },
+    /// There is no token of this key for what is asked.
+    TokenUnknown,
+    /// The token was followed before.
+    TokenSpent,
+    /// The token could be followed before this moment, in milliseconds.
+    TokenExpired { expiry: u64 },
 }

@@ -35,9 +35,6 @@ fn what_of<L: Ledger>(
     ensures { IfOk result (λ what. what ≡ what_of facts.now refusal) }
 {
     Ok(match refusal {
-        Refusal::NotBuilt => What::BadForm {
-            at: Name::known(alloc, b"verb")?,
-        },
         Refusal::WrongKey => What::AdminRefused {
             rule: Rule::WrongKey,
         },
@@ -59,7 +56,9 @@ fn what_of<L: Ledger>(
         Refusal::RealmRefused => What::AdminRefused {
             rule: Rule::RealmRefused,
         },
-        Refusal::NotYet => What::AdminRefused { rule: Rule::NotYet },
+        Refusal::TooManyTokens => What::AdminRefused {
+            rule: Rule::TooManyTokens,
+        },
         Refusal::NoSuchSession => What::AdminRefused {
             rule: Rule::NoSuchSession,
         },
@@ -79,6 +78,9 @@ fn what_of<L: Ledger>(
         Refusal::Locked { until } => What::Locked { until },
         Refusal::Disabled => What::Disabled,
         Refusal::CredentialMoved { had, now } => What::CredentialMoved { had, now },
+        Refusal::TokenUnknown => What::TokenUnknown,
+        Refusal::TokenSpent => What::TokenSpent,
+        Refusal::TokenExpired { expiry } => What::TokenExpired { expiry },
     })
 }
 

@@ -23,7 +23,7 @@ use Rattle.login_hall.specs.Growth.{chronicle_of}
 use Rattle.login_hall.specs.Legal.{LegalAfter}
 use Rattle.login_hall.proofs.Pushes.{chronicle_of-push}
 use Rattle.tab_asks.specs.declared.passing.Passing.{Passing}
-use Rattle.tab_asks.specs.Visit.{check_account}
+use Rattle.tab_pages.specs.Visit.{check_account}
 use Rattle.login_hall.specs.Due.{due_ask}
 use Rattle.hall_laws.specs.Closing.{opens, OpenNothing}
 use Rattle.hall_laws.proofs.Added.{is_plain, plain_allows, ask_all}
@@ -87,7 +87,7 @@ module _ (setting : Setting) (ask : Ask) (finding : Finding) (user : UserId) (un
   unrenewed : list_any (renews user) added ≡ false
   unrenewed =
       none (renews user) user added
-      (ask_all (Renewing user) (plain_allows (Renewing user) (renewing user)) setting ask finding (λ failing opened. refl) (λ post accepted.
+      (ask_all (Renewing user) (plain_allows (Renewing user) (renewing user)) (λ tab own session moment. refl) setting ask finding (λ failing opened. refl) (λ credential step. refl) (λ key. refl) (λ post accepted.
       let passing : Passing = record { tab = accepted.known.tab; user = accepted.user; credential = accepted.credential; moment = setting.moment } in
       evidence_all (Renewing user) (λ p. refl) (λ p execution kind. refl) (λ credential step. refl) (λ credential number. refl) passing post.form)) unopened
 
@@ -120,7 +120,7 @@ module _ (setting : Setting) (ask : Ask) (finding : Finding) (user : UserId) (un
     unmoved : list_any (moves_standing user) added ≡ false
     unmoved =
         none (moves_standing user) user added
-        (ask_all (Moving user) (plain_allows (Moving user) (moving user)) setting ask finding failing_other (λ post accepted.
+        (ask_all (Moving user) (plain_allows (Moving user) (moving user)) (λ tab own session moment. refl) setting ask finding failing_other (λ credential step. refl) (λ key. refl) (λ post accepted.
         let passing : Passing = record { tab = accepted.known.tab; user = accepted.user; credential = accepted.credential; moment = setting.moment } in
         evidence_all (Moving user) (λ p. refl) (λ p execution kind. refl) (λ credential step. refl) (λ credential number. refl) passing post.form)) unopened
 

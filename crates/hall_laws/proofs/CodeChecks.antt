@@ -1,5 +1,5 @@
 -- Whose code a check comes to.
-use Rattle.std.proofs.Common.{◌≡◌, ℕ, Bool, true, false, List, Some, None, refl, ap, subst}
+use Rattle.std.proofs.Common.{◌≡◌, ℕ, Bool, true, false, List, Some, None, refl, ap, subst, ◌∙◌}
 use Rattle.std.specs.Prelude.{Option, if◌then◌else◌}
 use Rattle.login_base.specs.declared.id.UserId.{UserId}
 use Rattle.one_time.specs.declared.verdict.Verdict.{Verdict}
@@ -10,6 +10,8 @@ use Rattle.hall_answers.specs.Setting.{Setting}
 use Rattle.tab_asks.specs.declared.check.Check.{Check}
 use Rattle.tab_asks.specs.declared.check.Check.TheVariants as checks
 use Rattle.tab_asks.specs.declared.check.Credential.{Credential}
+use Rattle.facts.specs.declared.tabs.Page.{Page}
+use Rattle.tab_asks.specs.Deeds.{deed_check, offered_otp, uncounted, setup_check}
 use Rattle.tab_asks.specs.Codes.{step_check, otp_verdict, otp_check, number_check, kept_verdict, recovery_check, asks_recovery, code_check}
 
 -- the user whose failure a check counts, if anybody's
@@ -73,3 +75,36 @@ pub code_fails : (setting : Setting) (asked : List Need) (who : Option UserId) (
 unfolding code_check
 code_fails setting asked None execution value user h = absurd cc
 code_fails setting asked (Some own) execution value user h = failing_is own user _ (code_of setting asked own execution value) h
+
+-- ---- codes of an offered secret
+
+-- a wrong one counts as nobody's failure
+uncounted_fails : (own : UserId) (user : UserId) (check : Check) → IsOf own check → failing (uncounted check) ≡ Some user → ⊥
+uncounted_fails own user (checks.Fits other credential) is h = absurd cc
+uncounted_fails own user (checks.Wrong other) is h = absurd is
+uncounted_fails own user (checks.WrongCode other) is h = absurd cc
+uncounted_fails own user (checks.SpentCode step) is h = absurd cc
+
+pub setup_fails : (setting : Setting) (page : Option Page) (who : Option UserId) (value : List ℕ) (user : UserId)
+    → failing (setup_check setting page who value) ≡ Some user → ⊥
+setup_fails setting page None value user h = absurd cc
+setup_fails setting page (Some own) value user h =
+    uncounted_fails own user (otp_check setting own (Some (offered_otp setting page)) value) (otp_is_of setting own (Some (offered_otp setting page)) value) h
+
+uncounted_fits : (own : UserId) (user : UserId) (credential : Credential) (check : Check) → IsOf own check → uncounted check ≡ checks.Fits user credential → Some own ≡ Some user
+uncounted_fits own user credential (checks.Fits other used) is h = let e : other ≡ user = cc in ap Some (is ∙ e)
+uncounted_fits own user credential (checks.Wrong other) is h = absurd is
+uncounted_fits own user credential (checks.WrongCode other) is h = absurd cc
+uncounted_fits own user credential (checks.SpentCode step) is h = absurd cc
+
+-- one that fits is that of the user whose login it is
+pub setup_fits : (setting : Setting) (page : Option Page) (who : Option UserId) (value : List ℕ) (user : UserId) (credential : Credential)
+    → setup_check setting page who value ≡ checks.Fits user credential → who ≡ Some user
+setup_fits setting page None value user credential h = absurd cc
+setup_fits setting page (Some own) value user credential h =
+    uncounted_fits own user credential (otp_check setting own (Some (offered_otp setting page)) value) (otp_is_of setting own (Some (offered_otp setting page)) value) h
+
+-- and so is it with an action that takes no code
+pub deed_fits : (who : Option UserId) (user : UserId) (credential : Credential) → deed_check who ≡ checks.Fits user credential → who ≡ Some user
+deed_fits (Some own) user credential h = cc
+deed_fits None user credential h = absurd cc

@@ -1,6 +1,6 @@
 -- The serials of the codes that were shown.
 use Rattle.std.proofs.Common.{◌≡◌, ℕ, ◌<◌, ◌≤◌, Bool, true, false, ◌&&◌, List, [], ◌∷◌, ◌++◌, Some, None, sym, subst, arith}
-use Rattle.std.specs.Prelude.{Option, fold, ◌==◌, if◌then◌else◌}
+use Rattle.std.specs.Prelude.{Option, option_map, fold, ◌==◌, if◌then◌else◌}
 use Rattle.std.specs.List.{All, list_any}
 use Rattle.std.proofs.lemmas.Bool.{and_left, and_parts, or_parts, eqb-true, ne_eqb}
 use Rattle.std.proofs.lemmas.List.Elements.{All-nil, All-cons, All-head, All-tail, All-weaker, All-append}
@@ -10,9 +10,10 @@ use Rattle.login_base.specs.declared.id.RootKey.{RootKey}
 use Rattle.login_base.specs.declared.id.TabKey.{TabKey}
 use Rattle.facts.specs.declared.fact.Fact.{Fact}
 use Rattle.facts.specs.declared.fact.Fact.TheVariants as events
+use Rattle.facts.specs.declared.tabs.Page.{Page}
 use Rattle.facts.specs.declared.tabs.TabState.{TabState}
 use Rattle.facts.specs.Serials.{tab_serial_after, last_tab_serial}
-use Rattle.facts.specs.Tabs.{tab_state, tab_after, no_tab}
+use Rattle.facts.specs.Tabs.{tab_state, tab_after, no_tab, shown_code}
 use Rattle.facts.proofs.SerialLemmas.{last_tab_serial_more}
 use Rattle.tab_asks.specs.Post.{is_code}
 use Rattle.login_hall.specs.Start.{is_mark}
@@ -24,16 +25,20 @@ abbrev pub IsBelow : ℕ → Option Code → Type 0
 IsBelow n None = Unit {0}
 IsBelow n (Some code) = code.0.serial ≤ n
 
-shown_below : (n : ℕ) (here : Bool) (code : Code) (own : Option Code) → code.0.serial ≤ n → IsBelow n own → IsBelow n (if here then Some code else own)
-shown_below n true code own shown below = shown
-shown_below n false code own shown below = below
+abbrev code_on : Option Page → Option Code
+code_on page = option_map (λ (p : Page). p.code) page
 
-below_after : (root : RootKey) (tab : TabKey) (n : ℕ) (state : TabState) (fact : Fact) → code_serial fact ≤ n → IsBelow n state.code → IsBelow n (tab_after root tab state fact).code
-below_after root tab n state (events.Rendered of code action offer) shown below = shown_below n (same_id of.0 tab.0) code state.code shown below
+shown_below : (n : ℕ) (here : Bool) (page : Page) (own : Option Page) → page.code.0.serial ≤ n → IsBelow n (code_on own) → IsBelow n (code_on (if here then Some page else own))
+shown_below n true page own shown below = shown
+shown_below n false page own shown below = below
+
+below_after : (root : RootKey) (tab : TabKey) (n : ℕ) (state : TabState) (fact : Fact) → code_serial fact ≤ n → IsBelow n (shown_code state) → IsBelow n (shown_code (tab_after root tab state fact))
+below_after root tab n state (events.Rendered of code action offer) shown below =
+    shown_below n (same_id of.0 tab.0) (record { code = code; action = action; offer = offer }) state.page shown below
 below_after root tab n state fact shown below = below
 
-all_below : (root : RootKey) (tab : TabKey) (n : ℕ) (state : TabState) (facts : List Fact) → All (λ fact. code_serial fact ≤ n) facts → IsBelow n state.code
-    → IsBelow n (fold (tab_after root tab) state facts).code
+all_below : (root : RootKey) (tab : TabKey) (n : ℕ) (state : TabState) (facts : List Fact) → All (λ fact. code_serial fact ≤ n) facts → IsBelow n (shown_code state)
+    → IsBelow n (shown_code (fold (tab_after root tab) state facts))
 all_below root tab n state [] all below = below
 all_below root tab n state (fact ∷ facts) all below =
     let head : code_serial fact ≤ n = All-head (λ (f : Fact). code_serial f ≤ n) fact facts all in
@@ -41,7 +46,7 @@ all_below root tab n state (fact ∷ facts) all below =
     all_below root tab n (tab_after root tab state fact) facts tail (below_after root tab n state fact head below)
 
 -- it has at most the last serial
-pub last_below : (root : RootKey) (tab : TabKey) (facts : List Fact) → HasCodesCounted facts → IsBelow (last_tab_serial facts) (tab_state root tab facts).code
+pub last_below : (root : RootKey) (tab : TabKey) (facts : List Fact) → HasCodesCounted facts → IsBelow (last_tab_serial facts) (shown_code (tab_state root tab facts))
 unfolding tab_state
 last_below root tab facts counted = all_below root tab (last_tab_serial facts) no_tab facts counted tt
 

@@ -28,7 +28,8 @@ use Rattle.tab_asks.specs.declared.check.Spent.TheVariants as spends
 use Rattle.tab_asks.specs.declared.passing.Passing.{Passing}
 use Rattle.tab_asks.specs.Codes.{step_check, otp_verdict, otp_check, number_check, kept_verdict, recovery_check, asks_recovery, code_check}
 use Rattle.tab_asks.specs.Forms.{evidence_fact, evidence_of}
-use Rattle.tab_asks.specs.Post.{check_of}
+use Rattle.login_progress.specs.declared.known_tab.KnownTab.{KnownTab}
+use Rattle.tab_asks.specs.Post.{check_with}
 use Rattle.hall_laws.specs.AskedEvidence.{execution_of}
 use Rattle.hall_laws.proofs.PassedLeaves.{id_same}
 use Rattle.hall_laws.proofs.TabStates.{same_id-same}
@@ -80,17 +81,17 @@ abbrev pub IsUsedBy : Form → Spent → Type 0
 IsUsedBy (forms.Value execution value) spent = IsUsed spent
 IsUsedBy form spent = Unit {0}
 
-pub check_uses : (setting : Setting) (asked : List Need) (named who : Option UserId) (password : Option UserPassword) (form : Form) (finding : Finding) (user : UserId) (credential : Credential)
-    → check_of setting asked named who password form finding ≡ checks.Fits user credential → IsUsedBy form credential.spent
-check_uses setting asked named who password (forms.Value execution value) finding user credential h = subst UsesUp h (code_uses setting asked who execution value)
-check_uses setting asked named who password (forms.Username execution name) finding user credential h = tt
-check_uses setting asked named who password (forms.NamePassword execution name given) finding user credential h = tt
-check_uses setting asked named who password (forms.Password execution given) finding user credential h = tt
-check_uses setting asked named who password forms.Terms finding user credential h = tt
-check_uses setting asked named who password (forms.UpdatePassword given) finding user credential h = tt
-check_uses setting asked named who password (forms.ConfigureOtp value) finding user credential h = tt
-check_uses setting asked named who password forms.RecoveryCodes finding user credential h = tt
-check_uses setting asked named who password forms.VerifyEmail finding user credential h = tt
+pub check_uses : (setting : Setting) (known : KnownTab) (asked : List Need) (named who : Option UserId) (password : Option UserPassword) (form : Form) (finding : Finding) (user : UserId) (credential : Credential)
+    → check_with setting known asked named who password form finding ≡ checks.Fits user credential → IsUsedBy form credential.spent
+check_uses setting known asked named who password (forms.Value execution value) finding user credential h = subst UsesUp h (code_uses setting asked who execution value)
+check_uses setting known asked named who password (forms.Username execution name) finding user credential h = tt
+check_uses setting known asked named who password (forms.NamePassword execution name given) finding user credential h = tt
+check_uses setting known asked named who password (forms.Password execution given) finding user credential h = tt
+check_uses setting known asked named who password forms.Terms finding user credential h = tt
+check_uses setting known asked named who password (forms.UpdatePassword given) finding user credential h = tt
+check_uses setting known asked named who password (forms.ConfigureOtp value) finding user credential h = tt
+check_uses setting known asked named who password forms.RecoveryCodes finding user credential h = tt
+check_uses setting known asked named who password forms.VerifyEmail finding user credential h = tt
 
 -- ---- evidence at the end of the facts
 

@@ -1,5 +1,5 @@
 -- A code that a check takes wasn't used before.
-use Rattle.std.proofs.Common.{◌≡◌, ℕ, ◌+◌, ◌<◌, ◌≤◌, ◌^◌, Bool, true, false, not, ◌&&◌, ◌||◌, ◌==◌, List, [], ◌∷◌, Some, None, nat_eq, nat_lt, max, length, refl, sym, ap, ◌∙◌, arith}
+use Rattle.std.proofs.Common.{◌≡◌, ℕ, ◌+◌, ◌<◌, ◌≤◌, ◌^◌, Bool, true, false, not, ◌&&◌, ◌||◌, ◌==◌, List, [], ◌∷◌, Some, None, nat_eq, nat_lt, max, length, refl, sym, ap, subst, ◌∙◌, arith}
 use Rattle.std.specs.Prelude.{Option, fold, if◌then◌else◌}
 use Rattle.std.specs.List.{list_any, find, flat_map}
 use Rattle.std.specs.Option.{option_to_list}
@@ -17,16 +17,20 @@ use Rattle.asks.specs.declared.finding.Finding.TheVariants as findings
 use Rattle.asks.specs.declared.reply.Need.{Need}
 use Rattle.facts.specs.declared.fact.Fact.{Fact}
 use Rattle.facts.specs.declared.fact.Fact.TheVariants as events
+use Rattle.facts.specs.declared.tabs.Page.{Page}
 use Rattle.facts.specs.declared.user_password.UserPassword.{UserPassword}
 use Rattle.facts.specs.Secrets.{KeptOtp, KeptRecovery, otp_of, recovery_of}
 use Rattle.facts.specs.Spent.{step_spent, spent_steps, number_after, codes_spent}
 use Rattle.hall_answers.specs.Setting.{Setting}
+use Rattle.login_progress.specs.declared.known_tab.KnownTab.{KnownTab}
 use Rattle.tab_asks.specs.declared.check.Check.{Check}
 use Rattle.tab_asks.specs.declared.check.Check.TheVariants as checks
+use Rattle.tab_asks.specs.declared.check.Credential.{Credential}
 use Rattle.tab_asks.specs.declared.check.Spent.{Spent}
 use Rattle.tab_asks.specs.declared.check.Spent.TheVariants as spends
 use Rattle.tab_asks.specs.Codes.{step_check, otp_verdict, otp_check, number_check, kept_verdict, recovery_check, asks_recovery, code_check}
-use Rattle.tab_asks.specs.Post.{name_check, password_check, check_of}
+use Rattle.tab_asks.specs.Deeds.{new_serial, deed_check, offered_otp, uncounted, setup_check}
+use Rattle.tab_asks.specs.Post.{name_check, password_check, check_with}
 use Rattle.hall_laws.specs.SpentOnce.{spends_same}
 
 -- ---- steps
@@ -185,14 +189,49 @@ password_fresh facts (Some user) (Some kept) (findings.Checked had true) = tt
 password_fresh facts (Some user) (Some kept) (findings.Checked had false) = tt
 password_fresh facts (Some user) (Some kept) finding = tt
 
-pub check_fresh : (setting : Setting) (asked : List Need) (named who : Option UserId) (password : Option UserPassword) (form : Form) (finding : Finding)
-    → IsFresh setting.facts (check_of setting asked named who password form finding)
-check_fresh setting asked named who password (forms.Username execution name) finding = name_fresh setting.facts named
-check_fresh setting asked named who password (forms.Password execution given) finding = password_fresh setting.facts who password finding
-check_fresh setting asked named who password (forms.NamePassword execution name given) finding = password_fresh setting.facts named password finding
-check_fresh setting asked named who password (forms.Value execution value) finding = code_fresh setting asked who execution value
-check_fresh setting asked named who password forms.Terms finding = tt
-check_fresh setting asked named who password (forms.UpdatePassword given) finding = tt
-check_fresh setting asked named who password (forms.ConfigureOtp value) finding = tt
-check_fresh setting asked named who password forms.RecoveryCodes finding = tt
-check_fresh setting asked named who password forms.VerifyEmail finding = tt
+deed_fresh : (facts : List Fact) (who : Option UserId) → IsFresh facts (deed_check who)
+deed_fresh facts None = tt
+deed_fresh facts (Some user) = tt
+
+uncounted_fresh : (facts : List Fact) (check : Check) → IsFresh facts check → IsFresh facts (uncounted check)
+uncounted_fresh facts (checks.Fits user credential) h = h
+uncounted_fresh facts (checks.Wrong user) h = tt
+uncounted_fresh facts (checks.WrongCode user) h = tt
+uncounted_fresh facts (checks.SpentCode step) h = tt
+
+setup_fresh : (setting : Setting) (page : Option Page) (who : Option UserId) (value : List ℕ) → IsFresh setting.facts (setup_check setting page who value)
+setup_fresh setting page None value = tt
+setup_fresh setting page (Some user) value =
+    uncounted_fresh setting.facts (otp_check setting user (Some (offered_otp setting page)) value) (otp_fresh setting user (Some (offered_otp setting page)) value)
+
+pub check_fresh : (setting : Setting) (known : KnownTab) (asked : List Need) (named who : Option UserId) (password : Option UserPassword) (form : Form) (finding : Finding)
+    → IsFresh setting.facts (check_with setting known asked named who password form finding)
+check_fresh setting known asked named who password (forms.Username execution name) finding = name_fresh setting.facts named
+check_fresh setting known asked named who password (forms.Password execution given) finding = password_fresh setting.facts who password finding
+check_fresh setting known asked named who password (forms.NamePassword execution name given) finding = password_fresh setting.facts named password finding
+check_fresh setting known asked named who password (forms.Value execution value) finding = code_fresh setting asked who execution value
+check_fresh setting known asked named who password forms.Terms finding = deed_fresh setting.facts who
+check_fresh setting known asked named who password (forms.UpdatePassword given) finding = deed_fresh setting.facts who
+check_fresh setting known asked named who password (forms.ConfigureOtp value) finding = setup_fresh setting known.state.page who value
+check_fresh setting known asked named who password forms.RecoveryCodes finding = deed_fresh setting.facts who
+check_fresh setting known asked named who password forms.VerifyEmail finding = tt
+
+-- ---- the serial of a code of an offered secret
+
+abbrev HasSerial : ℕ → Check → Type 0
+HasSerial serial (checks.Fits user credential) = credential.serial ≡ serial
+HasSerial serial (checks.Wrong user) = Unit {0}
+HasSerial serial (checks.WrongCode user) = Unit {0}
+HasSerial serial (checks.SpentCode step) = Unit {0}
+
+step_serial : (user : UserId) (serial : ℕ) (verdict : Verdict) → HasSerial serial (uncounted (step_check user serial verdict))
+step_serial user serial (verdicts.Fits step) = refl
+step_serial user serial (verdicts.Spent step) = tt
+step_serial user serial verdicts.Wrong = tt
+
+-- it is that of the secret that is to be set
+pub setup_serial : (setting : Setting) (page : Option Page) (who : Option UserId) (value : List ℕ) (user : UserId) (credential : Credential)
+    → setup_check setting page who value ≡ checks.Fits user credential → credential.serial ≡ new_serial setting
+setup_serial setting page None value user credential h = absurd cc
+setup_serial setting page (Some own) value user credential h =
+    subst (HasSerial (new_serial setting)) h (step_serial own (new_serial setting) (otp_verdict setting (offered_otp setting page) value))

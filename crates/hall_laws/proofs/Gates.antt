@@ -15,7 +15,7 @@ use Rattle.hall_answers.specs.declared.answer.Answer.{Answer}
 use Rattle.hall_answers.specs.declared.refusal.Refusal.{Refusal}
 use Rattle.hall_answers.specs.declared.refusal.Refusal.TheVariants as refusals
 use Rattle.hall_answers.specs.Refusals.{◌>>=◌, what_of, settled}
-use Rattle.tab_asks.specs.Visit.{same_user, user_of, check_unlocked, check_enabled, check_account}
+use Rattle.tab_pages.specs.Visit.{same_user, user_of, check_unlocked, check_enabled, check_account}
 use Rattle.hall_laws.specs.Ready.{done_for}
 
 pub first_passed : {A : Type 0} (first : Result (Unit {0}) Refusal) (more : Unit {0} → Result A Refusal) (x : A)
@@ -94,14 +94,13 @@ is_open facts moment user opened = rw (opened.unlocked, opened.enabled) refl
 -- ---- refusals complete no login
 
 not_done : (facts : List Fact) (refusal : Refusal) → done_for (what_of facts refusal) ≡ None
-not_done facts refusals.NotBuilt = refl
 not_done facts refusals.WrongKey = refl
 not_done facts refusals.UserTaken = refl
 not_done facts refusals.TooManyUsers = refl
 not_done facts refusals.NoSuchUser = refl
 not_done facts refusals.AccountDisabled = refl
 not_done facts refusals.RealmRefused = refl
-not_done facts refusals.NotYet = refl
+not_done facts refusals.TooManyTokens = refl
 not_done facts refusals.NothingThere = refl
 not_done facts refusals.NoSuchSession = refl
 not_done facts refusals.UnknownClient = refl
@@ -117,6 +116,9 @@ not_done facts refusals.NotAsked = refl
 not_done facts (refusals.Locked until) = refl
 not_done facts refusals.Disabled = refl
 not_done facts (refusals.CredentialMoved had now) = refl
+not_done facts refusals.TokenUnknown = refl
+not_done facts refusals.TokenSpent = refl
+not_done facts (refusals.TokenExpired expiry) = refl
 
 -- what was answered, where the login completes
 pub record Settled {A : Type 0} (answer : A → Answer) (result : Result A Refusal) (user : UserId) : Type 0 where

@@ -3,6 +3,8 @@ pub mod Checking
 pub mod ClosedAccounts
 pub mod CodeChecks
 pub mod CodeSerials
+pub mod CompletingOnce
+pub mod DeedFacts
 pub mod EvidenceCounts
 pub mod EvidenceFacts
 pub mod Evidencing

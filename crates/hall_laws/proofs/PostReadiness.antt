@@ -12,7 +12,7 @@ use Rattle.asks.specs.declared.reply.Need.{Need}
 use Rattle.facts.specs.declared.tabs.TabState.{TabState}
 use Rattle.facts.specs.declared.user_password.UserPassword.{UserPassword}
 use Rattle.facts.specs.Accounts.{account_named}
-use Rattle.facts.specs.Tabs.{tab_state, live_session, who_of}
+use Rattle.facts.specs.Tabs.{tab_state, shown_code, live_session, who_of}
 use Rattle.hall_answers.specs.declared.refusal.Refusal.{Refusal}
 use Rattle.hall_answers.specs.declared.refusal.Refusal.TheVariants as refusals
 use Rattle.hall_answers.specs.Setting.{Setting}
@@ -21,25 +21,25 @@ use Rattle.account_states.specs.States.{is_closed_in}
 use Rattle.lockout.specs.Standing.{is_locked}
 use Rattle.login_progress.specs.declared.known_tab.KnownTab.{KnownTab}
 use Rattle.login_progress.specs.PasswordFor.{password_for}
+use Rattle.login_progress.specs.declared.progress.Progress.{Progress}
 use Rattle.login_progress.specs.Progress.{progress_of, asked_in}
 use Rattle.tab_asks.specs.declared.check.Check.{Check}
 use Rattle.tab_asks.specs.declared.check.Check.TheVariants as checks
 use Rattle.tab_asks.specs.declared.check.Credential.{Credential}
-use Rattle.tab_asks.specs.declared.passing.Passing.{Passing}
 use Rattle.tab_asks.specs.Forms.{named_by, target_of, concerned}
-use Rattle.tab_asks.specs.Post.{is_code, check_code, check_user, check_post, has_need, check_asked, check_credential, check_form, password_check, name_check, check_of, known_over, answer_to_accepted, answer_to_check, post_where, post_by, post_in, due_post}
-use Rattle.tab_asks.specs.Visit.{check_tab, check_whole, check_unfinished, check_account, user_of, same_user}
-use Rattle.hall_laws.specs.Ready.{IsReady, IsAccepted, IsReadyAfterPost, facts_accepted, done_for}
+use Rattle.tab_asks.specs.Post.{is_code, check_code, check_user, check_post, is_asked, check_asked, check_credential, check_form, password_check, name_check, check_with, check_of, known_over, answer_to_accepted, answer_to_check, post_where, post_by, post_in, due_post}
+use Rattle.tab_pages.specs.Visit.{check_tab, check_whole, check_unfinished, check_account, user_of, same_user}
+use Rattle.hall_laws.specs.Ready.{IsReady, IsAccepted, IsReadyAfterPost, facts_accepted, progress_at, done_for}
 use Rattle.hall_laws.proofs.Gates.{first_passed, test_passed, test_failed, whole_is, open_is, same_either, concerned_is, settled_done}
 use Rattle.hall_laws.proofs.Readiness.{lets_in, ready_user, tab_done, ready_progress}
 use Rattle.hall_laws.proofs.TabLives.{IsKnown, tab_known}
-use Rattle.hall_laws.proofs.TabStates.{named_as, with_name, evidence_state, account_kept}
+use Rattle.hall_laws.proofs.TabStates.{named_as, with_name, accepted_state, account_kept}
 
 -- ---- what an accepted post passed
 
 -- what check_post found
 pub record Current (facts : List Fact) (moment : ℕ) (known : KnownTab) (post : Post) (named : Option UserId) : Type 0 where
-  pub code_shown : is_code post.code known.state.code ≡ true
+  pub code_shown : is_code post.code (shown_code known.state) ≡ true
   pub whole : same_user known.state.named (user_of (live_session moment known.state)) ≡ Ok tt
   pub same : same_user (named_by facts post.form) (user_of (live_session moment known.state)) ≡ Ok tt
   pub unfinished : known.state.completed ≡ false
@@ -55,7 +55,7 @@ is_current facts moment known post named h =
     let fourth = first_passed (check_unfinished known) _ named third.1 in
     let last : ◌≡◌ {A = Result (Option UserId) Refusal} (Ok (named_by facts post.form)) (Ok named) = fourth.1 in
     record {
-      code_shown = test_passed (is_code post.code known.state.code) (refusals.Stale known.state.code) first.0;
+      code_shown = test_passed (is_code post.code (shown_code known.state)) (refusals.Stale (shown_code known.state)) first.0;
       whole = second.0;
       same = third.0;
       unfinished = test_failed known.state.completed refusals.Finished fourth.0;
@@ -63,24 +63,25 @@ is_current facts moment known post named h =
     }
 
 -- what check_form found
-pub record Fitting (setting : Setting) (known : KnownTab) (asked : List Need) (named : Option UserId) (form : Form) (finding : Finding) (check : Check) : Type 0 where
-  pub form_asked : has_need asked form ≡ true
+pub record Fitting (setting : Setting) (known : KnownTab) (progress : Progress) (named : Option UserId) (form : Form) (finding : Finding) (check : Check) : Type 0 where
+  pub form_asked : is_asked progress known.state.page form ≡ true
   pub account : check_account setting.facts setting.moment (concerned named (who_of setting.moment known.state)) ≡ Ok tt
   pub is_check :
-      check_of setting asked named (who_of setting.moment known.state) (password_for setting.facts (target_of named (who_of setting.moment known.state) form)) form finding ≡ check
+      check_with setting known (asked_in progress) named (who_of setting.moment known.state) (password_for setting.facts (target_of named (who_of setting.moment known.state) form)) form finding ≡ check
 
-pub is_fitting : (setting : Setting) (known : KnownTab) (asked : List Need) (named : Option UserId) (form : Form) (finding : Finding) (check : Check)
-    → check_form setting known asked named form finding ≡ Ok check → Fitting setting known asked named form finding check
+pub is_fitting : (setting : Setting) (known : KnownTab) (progress : Progress) (named : Option UserId) (form : Form) (finding : Finding) (check : Check)
+    → check_form setting known progress named form finding ≡ Ok check → Fitting setting known progress named form finding check
 unfolding check_form
-is_fitting setting known asked named form finding check h =
+is_fitting setting known progress named form finding check h =
     let who = who_of setting.moment known.state in
+    let asked = asked_in progress in
     let password = password_for setting.facts (target_of named who form) in
-    let first = first_passed (check_asked asked form) _ check h in
+    let first = first_passed (check_asked progress known.state.page form) _ check h in
     let second = first_passed (check_account setting.facts setting.moment (concerned named who)) _ check first.1 in
     let third = first_passed (check_credential password finding) _ check second.1 in
-    let last : ◌≡◌ {A = Result Check Refusal} (Ok (check_of setting asked named who password form finding)) (Ok check) = third.1 in
+    let last : ◌≡◌ {A = Result Check Refusal} (Ok (check_of setting known asked named password form finding)) (Ok check) = third.1 in
     record {
-      form_asked = test_passed (has_need asked form) refusals.NotAsked first.0;
+      form_asked = test_passed (is_asked progress known.state.page form) refusals.NotAsked first.0;
       account = second.0;
       is_check = cc;
     }
@@ -99,17 +100,17 @@ password_fits (Some other) (Some kept) (findings.Checked had false) user credent
 password_fits (Some other) (Some kept) finding user credential h = absurd cc
 
 -- a form that names a user names the one whom its check fits
-fits_named : (setting : Setting) (asked : List Need) (who : Option UserId) (password : Option UserPassword) (form : Form) (finding : Finding) (user : UserId) (credential : Credential)
-    → check_of setting asked (named_by setting.facts form) who password form finding ≡ checks.Fits user credential → named_by setting.facts form ≡ named_as user form
-fits_named setting asked who password (forms.Username execution name) finding user credential h = name_fits (account_named name setting.facts) user credential h
-fits_named setting asked who password (forms.NamePassword execution name given) finding user credential h = password_fits (account_named name setting.facts) password finding user credential h
-fits_named setting asked who password (forms.Password execution given) finding user credential h = refl
-fits_named setting asked who password (forms.Value execution value) finding user credential h = refl
-fits_named setting asked who password forms.Terms finding user credential h = refl
-fits_named setting asked who password (forms.UpdatePassword given) finding user credential h = refl
-fits_named setting asked who password (forms.ConfigureOtp value) finding user credential h = refl
-fits_named setting asked who password forms.RecoveryCodes finding user credential h = refl
-fits_named setting asked who password forms.VerifyEmail finding user credential h = refl
+fits_named : (setting : Setting) (known : KnownTab) (asked : List Need) (who : Option UserId) (password : Option UserPassword) (form : Form) (finding : Finding) (user : UserId) (credential : Credential)
+    → check_with setting known asked (named_by setting.facts form) who password form finding ≡ checks.Fits user credential → named_by setting.facts form ≡ named_as user form
+fits_named setting known asked who password (forms.Username execution name) finding user credential h = name_fits (account_named name setting.facts) user credential h
+fits_named setting known asked who password (forms.NamePassword execution name given) finding user credential h = password_fits (account_named name setting.facts) password finding user credential h
+fits_named setting known asked who password (forms.Password execution given) finding user credential h = refl
+fits_named setting known asked who password (forms.Value execution value) finding user credential h = refl
+fits_named setting known asked who password forms.Terms finding user credential h = refl
+fits_named setting known asked who password (forms.UpdatePassword given) finding user credential h = refl
+fits_named setting known asked who password (forms.ConfigureOtp value) finding user credential h = refl
+fits_named setting known asked who password forms.RecoveryCodes finding user credential h = refl
+fits_named setting known asked who password forms.VerifyEmail finding user credential h = refl
 
 -- ---- the tab behind the evidence
 
@@ -117,27 +118,27 @@ fits_named setting asked who password forms.VerifyEmail finding user credential 
 pub record Behind (setting : Setting) (post : Post) (finding : Finding) (accepted : IsAccepted setting post finding) : Type 0 where
   pub known : IsKnown setting.facts setting.moment post.root post.tab accepted.known
   pub current : Current setting.facts setting.moment accepted.known post accepted.named
-  pub fitting : Fitting setting accepted.known (asked_in (progress_of setting.facts setting.moment accepted.known)) accepted.named post.form finding (checks.Fits accepted.user accepted.credential)
+  pub fitting : Fitting setting accepted.known (progress_at setting accepted.known) accepted.named post.form finding (checks.Fits accepted.user accepted.credential)
   pub is_state : tab_state accepted.known.root accepted.known.tab (facts_accepted setting post finding accepted) ≡ with_name accepted.known.state accepted.named
 
 pub behind : (setting : Setting) (post : Post) (finding : Finding) (accepted : IsAccepted setting post finding) → Behind setting post finding accepted
 behind setting post finding accepted =
     let known = accepted.known in
     let facts = setting.facts in
+    let progress = progress_at setting known in
     let is_known = tab_known facts setting.moment post.root post.tab known accepted.is_known in
     let current = is_current facts setting.moment known post accepted.named accepted.is_named in
-    let fitting = is_fitting setting known (asked_in (progress_of facts setting.moment known)) accepted.named post.form finding (checks.Fits accepted.user accepted.credential) accepted.fits in
+    let fitting = is_fitting setting known progress accepted.named post.form finding (checks.Fits accepted.user accepted.credential) accepted.fits in
     let who = who_of setting.moment known.state in
-    let check = subst (λ (n : Option UserId). check_of setting (asked_in (progress_of facts setting.moment known)) n who (password_for facts (target_of n who post.form)) post.form finding ≡ checks.Fits accepted.user accepted.credential)
+    let check = subst (λ (n : Option UserId). check_with setting known (asked_in progress) n who (password_for facts (target_of n who post.form)) post.form finding ≡ checks.Fits accepted.user accepted.credential)
     (sym current.is_named) fitting.is_check in
-    let named = fits_named setting (asked_in (progress_of facts setting.moment known)) who (password_for facts (target_of (named_by facts post.form) who post.form)) post.form finding accepted.user accepted.credential check in
-    let passing : Passing = record { tab = known.tab; user = accepted.user; credential = accepted.credential; moment = setting.moment } in
+    let named = fits_named setting known (asked_in progress) who (password_for facts (target_of (named_by facts post.form) who post.form)) post.form finding accepted.user accepted.credential check in
     record {
       known = is_known;
       current = current;
       fitting = fitting;
       is_state =
-          evidence_state known.root facts passing post.form
+          accepted_state setting known post.form finding accepted.user accepted.credential known.root
           ∙ ap (λ (s : TabState). with_name s (named_as accepted.user post.form)) (sym is_known.is_state)
           ∙ ap (with_name known.state) (sym named ∙ current.is_named);
     }
@@ -177,7 +178,7 @@ progress_ready setting post finding accepted user h =
     let same = subst (λ (n : Option UserId). same_user n (user_of live) ≡ Ok tt) b.current.is_named b.current.same in
     let who = concerned_is named known.state.named live same ∙ sym (ap (who_of setting.moment) b.is_state) ∙ lets.is_theirs in
     let opened = open_is facts setting.moment user (subst (λ (w : Option UserId). check_account facts setting.moment w ≡ Ok tt) who b.fitting.account) in
-    let passing : Passing = record { tab = known.tab; user = accepted.user; credential = accepted.credential; moment = setting.moment } in
+    let kept = account_kept setting known post.form finding accepted.user accepted.credential user in
     record {
       opening = known.opening;
       is_opened = opened_behind setting post finding accepted;
@@ -187,9 +188,10 @@ progress_ready setting post finding accepted user h =
       is_unfinished = ap (λ (s : TabState). s.completed) b.is_state ∙ b.current.unfinished;
       is_whole = whole_is now.named (live_session setting.moment now) (whole_behind setting post finding accepted);
       is_theirs = lets.is_theirs;
-      is_unlocked = ap (λ (s : AccountState). is_locked s.standing setting.moment) (account_kept facts passing post.form user) ∙ opened.unlocked;
-      is_enabled = ap is_closed_in (account_kept facts passing post.form user) ∙ opened.enabled;
+      is_unlocked = ap (λ (s : AccountState). is_locked s.standing setting.moment) kept ∙ opened.unlocked;
+      is_enabled = ap is_closed_in kept ∙ opened.enabled;
       holds = lets.holds;
+      nothing_pending = lets.nothing_pending;
       is_granted = lets.is_granted_so;
     }
 
@@ -203,8 +205,8 @@ pub record Answered (setting : Setting) (post : Post) (finding : Finding) (user 
 check_answered : (setting : Setting) (post : Post) (finding : Finding) (user : UserId) (known : KnownTab) (named : Option UserId) (check : Check)
     → check_tab setting.facts setting.moment post.root post.tab ≡ Ok known
     → check_post setting.facts setting.moment known post ≡ Ok named
-    → check_form setting known (asked_in (progress_of setting.facts setting.moment known)) named post.form finding ≡ Ok check
-    → done_for (answer_to_check setting known (asked_in (progress_of setting.facts setting.moment known)) post.form check).reply.what ≡ Some user
+    → check_form setting known (progress_at setting known) named post.form finding ≡ Ok check
+    → done_for (answer_to_check setting known (progress_at setting known) post.form finding check).reply.what ≡ Some user
     → Answered setting post finding user
 unfolding answer_to_check answer_to_accepted
 check_answered setting post finding user known named (checks.Fits fit credential) is_known is_named fits h =
@@ -231,13 +233,13 @@ answered setting post finding user h =
     let first = settled_done facts None (post_in setting post finding) (check_tab facts setting.moment post.root post.tab) user h in
     let known = first.got in
     let second = settled_done facts (Some known.tab) (post_by setting post.form finding known) (check_post facts setting.moment known post) user first.done in
-    let asked = asked_in (progress_of facts setting.moment known) in
-    let third = settled_done facts (Some known.tab) (answer_to_check setting known asked post.form) (check_form setting known asked second.got post.form finding) user second.done in
+    let progress = progress_at setting known in
+    let third = settled_done facts (Some known.tab) (answer_to_check setting known progress post.form finding) (check_form setting known progress second.got post.form finding) user second.done in
     check_answered setting post finding user known second.got third.got first.is_got second.is_got third.is_got third.done
 
 -- what an accepted post is due
 pub accepted_due : (setting : Setting) (post : Post) (finding : Finding) (accepted : IsAccepted setting post finding)
-    → due_post setting post finding ≡ answer_to_accepted setting accepted.known post.form accepted.user accepted.credential
+    → due_post setting post finding ≡ answer_to_accepted setting accepted.known post.form finding accepted.user accepted.credential
 unfolding due_post post_in post_where answer_to_check
 accepted_due setting post finding accepted = rw (accepted.is_known, accepted.is_named, accepted.fits) refl
 
@@ -248,7 +250,7 @@ post_ready setting post finding user h =
     record { accepted = a.accepted; ready = progress_ready setting post finding a.accepted user a.done }
 
 accepted_answer : (setting : Setting) (post : Post) (finding : Finding) (accepted : IsAccepted setting post finding)
-    → done_for (answer_to_accepted setting accepted.known post.form accepted.user accepted.credential).reply.what
+    → done_for (answer_to_accepted setting accepted.known post.form finding accepted.user accepted.credential).reply.what
     ≡ ready_user (progress_of (facts_accepted setting post finding accepted) setting.moment (known_accepted setting post finding accepted))
 unfolding answer_to_accepted
 accepted_answer setting post finding accepted =

@@ -1,16 +1,19 @@
 -- When a tab is answered that its login is complete.
 use Rattle.std.proofs.Common.{◌≡◌, ℕ, Bool, true, false, List, [], ◌∷◌, Some, None, refl, sym, ap, subst, ◌∙◌}
 use Rattle.std.specs.Prelude.{Option, Ok, if◌then◌else◌, ◌↔◌}
+use Rattle.std.proofs.lemmas.Option.{same_Some}
 use Rattle.login_base.specs.declared.id.RootKey.{RootKey}
 use Rattle.login_base.specs.declared.id.TabKey.{TabKey}
 use Rattle.login_base.specs.declared.id.UserId.{UserId}
 use Rattle.flow_tree.specs.declared.exec.Exec.{Exec}
 use Rattle.flow_tree.specs.Flow.{flow_holds, flow_needs}
+use Rattle.realm_data.specs.declared.action.Action.{Action}
 use Rattle.realm_data.specs.declared.realm_parts.RealmParts.{RealmParts}
 use Rattle.asks.specs.declared.ask.NewTab.{NewTab}
 use Rattle.facts.specs.declared.fact.Fact.{Fact}
 use Rattle.asks.specs.declared.reply.Need.{Need}
 use Rattle.facts.specs.declared.tabs.Opening.{Opening}
+use Rattle.facts.specs.Actions.{first_pending}
 use Rattle.facts.specs.Realms.{realm_of}
 use Rattle.facts.specs.Tabs.{tab_state, tab_is_live, live_session, who_of}
 use Rattle.hall_answers.specs.declared.refusal.Refusal.TheVariants as refusals
@@ -23,10 +26,10 @@ use Rattle.login_progress.specs.declared.progress.Progress.{Progress}
 use Rattle.login_progress.specs.declared.progress.Progress.TheVariants as progresses
 use Rattle.login_progress.specs.Asked.{asked_of, blocked, first_denied, first_not_configured, denied_or, not_configured}
 use Rattle.login_progress.specs.Login.{login_in, truths_in, is_granted_in}
-use Rattle.login_progress.specs.Progress.{asked_or, lacking, holding, progress_in, progress_under, progress_of}
-use Rattle.tab_asks.specs.NewTab.{check_new_tab, new_tab_answer, due_new_tab, facts_opened, opening_at}
-use Rattle.tab_asks.specs.Pages.{completion, progress_answer, tab_answer, tab_answer_then, visit_answer, due_page}
-use Rattle.tab_asks.specs.Visit.{check_tab, check_known, check_whole, check_unfinished, check_account, check_visit, user_of, same_user}
+use Rattle.login_progress.specs.Progress.{asked_or, lacking, unless_pending, holding, progress_in, progress_under, progress_of}
+use Rattle.root_asks.specs.NewTab.{check_new_tab, new_tab_answer, due_new_tab, facts_opened, opening_at}
+use Rattle.tab_pages.specs.Pages.{completion, progress_answer, tab_answer, tab_answer_then, visit_answer, due_page}
+use Rattle.tab_pages.specs.Visit.{check_tab, check_known, check_whole, check_unfinished, check_account, check_visit, user_of, same_user}
 use Rattle.hall_laws.specs.Ready.{IsReady, IsReadyAtOpening, known_at, done_for}
 use Rattle.hall_laws.proofs.Gates.{first_passed, test_failed, whole_is, is_whole, open_is, is_open, settled_done}
 use Rattle.hall_laws.proofs.TabLives.{shown, lives, opened_lives}
@@ -41,6 +44,7 @@ ready_user (progresses.Denied execution) = None
 ready_user (progresses.NotConfigured execution) = None
 ready_user progresses.DeadEnd = None
 ready_user (progresses.LevelMissed level) = None
+ready_user (progresses.Required user action) = None
 
 progress_done : (facts : List Fact) (setting : Setting) (known : KnownTab) (progress : Progress)
     → done_for (progress_answer facts setting known progress).reply.what ≡ ready_user progress
@@ -51,6 +55,7 @@ progress_done facts setting known (progresses.Denied execution) = refl
 progress_done facts setting known (progresses.NotConfigured execution) = refl
 progress_done facts setting known progresses.DeadEnd = refl
 progress_done facts setting known (progresses.LevelMissed level) = refl
+progress_done facts setting known (progresses.Required user action) = refl
 
 pub tab_done : (facts : List Fact) (setting : Setting) (known : KnownTab)
     → done_for (tab_answer facts setting known).reply.what ≡ ready_user (progress_of facts setting.moment known)
@@ -72,31 +77,49 @@ lacking_waits login tree needs =
     let account = login.view.account in
     asked_waits (asked_of tree login needs) (blocked tree account needs) (blocked_waits (first_denied tree needs) (first_not_configured tree account needs))
 
--- the flow holds, the level is granted, and the login is the user's
-record Passes (holds granted : Bool) (who : Option UserId) (user : UserId) : Type 0 where
+-- the flow holds, the level is granted, nothing is pending, and the login is the user's
+record Passes (holds granted : Bool) (pending : UserId → Option Action) (who : Option UserId) (user : UserId) : Type 0 where
   holds_so : holds ≡ true
   granted_so : granted ≡ true
+  nothing_pending : pending user ≡ None
   is_theirs : who ≡ Some user
 
-granted_passes : (granted : Bool) (found user : UserId) (levels : List ℕ) (level : ℕ) → ready_user (if granted then progresses.Ready found levels else progresses.LevelMissed level) ≡ Some user
-    → Passes true granted (Some found) user
-granted_passes true found user levels level h = record { holds_so = refl; granted_so = refl; is_theirs = h }
-granted_passes false found user levels level h = absurd cc
+settled_passes : (pending : UserId → Option Action) (first : Option Action) (found user : UserId) (levels : List ℕ) → pending found ≡ first
+    → ready_user (unless_pending first found levels) ≡ Some user → Passes true true pending (Some found) user
+settled_passes pending None found user levels is h =
+    record {
+      holds_so = refl;
+      granted_so = refl;
+      nothing_pending = subst (λ (u : UserId). pending u ≡ None) (same_Some found user h) is;
+      is_theirs = h;
+    }
+settled_passes pending (Some action) found user levels is h = absurd cc
 
-holds_passes : (holds : Bool) (login : Login) (held : List (List ℕ)) (tree : List Exec) (who : Option UserId) (other : Progress) (user : UserId) → ready_user other ≡ None
-    → ready_user (if holds then holding login held tree who else other) ≡ Some user → Passes holds (is_granted login.view held tree) who user
-holds_passes true login held tree None other user waits h = absurd cc
-holds_passes true login held tree (Some found) other user waits h =
-    granted_passes (is_granted login.view held tree) found user (levels_reached held login.view.level tree) login.view.level h
-holds_passes false login held tree who other user waits h = absurd cc
+granted_passes : (granted : Bool) (pending : UserId → Option Action) (found user : UserId) (levels : List ℕ) (level : ℕ)
+    → ready_user (if granted then unless_pending (pending found) found levels else progresses.LevelMissed level) ≡ Some user
+    → Passes true granted pending (Some found) user
+granted_passes true pending found user levels level h = settled_passes pending (pending found) found user levels refl h
+granted_passes false pending found user levels level h = absurd cc
 
--- what lets a user in: the realm is known, the login is the user's, the flow holds, and the level is granted
+abbrev pending_in : List Fact → UserId → Option Action
+pending_in facts user = first_pending user facts
+
+holds_passes : (holds : Bool) (facts : List Fact) (login : Login) (held : List (List ℕ)) (tree : List Exec) (who : Option UserId) (other : Progress) (user : UserId) → ready_user other ≡ None
+    → ready_user (if holds then holding facts login held tree who else other) ≡ Some user → Passes holds (is_granted login.view held tree) (pending_in facts) who user
+holds_passes true facts login held tree None other user waits h = absurd cc
+holds_passes true facts login held tree (Some found) other user waits h =
+    granted_passes (is_granted login.view held tree) (pending_in facts) found user (levels_reached held login.view.level tree) login.view.level h
+holds_passes false facts login held tree who other user waits h = absurd cc
+
+-- what lets a user in: the realm is known, the login is the user's, the flow holds, the level is granted, and nothing is
+-- pending
 pub record LetsIn (facts : List Fact) (moment : ℕ) (known : KnownTab) (who : Option UserId) (found : Option RealmParts) (user : UserId) : Type 0 where
   pub realm : RealmParts
   pub is_found : found ≡ Some realm
   pub is_theirs : who ≡ Some user
   pub holds : flow_holds (truths_in facts moment known (Some user) realm.flow) realm.flow ≡ true
   pub is_granted_so : is_granted_in facts moment known (Some user) realm.flow ≡ true
+  pub nothing_pending : first_pending user facts ≡ None
 
 -- how far the login of this user has come
 abbrev pub under_realm : List Fact → ℕ → KnownTab → Option UserId → Option RealmParts → Progress
@@ -116,13 +139,14 @@ in_who facts moment known who (Some realm) user h =
     let tree = realm.flow in
     let login = login_in facts moment known who tree in
     let held = truths_in facts moment known who tree in
-    let passes = holds_passes (flow_holds held tree) login held tree who (lacking login tree (flow_needs held tree)) user (lacking_waits login tree (flow_needs held tree)) h in
+    let passes = holds_passes (flow_holds held tree) facts login held tree who (lacking login tree (flow_needs held tree)) user (lacking_waits login tree (flow_needs held tree)) h in
     record {
       realm = realm;
       is_found = refl;
       is_theirs = passes.is_theirs;
       holds = subst (λ (w : Option UserId). flow_holds (truths_in facts moment known w tree) tree ≡ true) passes.is_theirs passes.holds_so;
       is_granted_so = subst (λ (w : Option UserId). is_granted_in facts moment known w tree ≡ true) passes.is_theirs passes.granted_so;
+      nothing_pending = passes.nothing_pending;
     }
 
 pub lets_in : (facts : List Fact) (moment : ℕ) (known : KnownTab) (user : UserId) → ready_user (progress_of facts moment known) ≡ Some user
@@ -133,10 +157,10 @@ lets_in facts moment known user h =
     in_who facts moment known (who_of moment known.state) found user (sym (ap ready_user (under_is facts moment known found)) ∙ h)
 
 in_flow : (facts : List Fact) (moment : ℕ) (known : KnownTab) (user : UserId) (realm : RealmParts)
-    → flow_holds (truths_in facts moment known (Some user) realm.flow) realm.flow ≡ true → is_granted_in facts moment known (Some user) realm.flow ≡ true
+    → flow_holds (truths_in facts moment known (Some user) realm.flow) realm.flow ≡ true → is_granted_in facts moment known (Some user) realm.flow ≡ true → first_pending user facts ≡ None
     → ready_user (progress_in facts moment known (Some user) realm.flow) ≡ Some user
 unfolding progress_in
-in_flow facts moment known user realm holds granted = rw (holds, granted) refl
+in_flow facts moment known user realm holds granted settled = rw (holds, granted, settled) refl
 
 pub is_let_in : (facts : List Fact) (moment : ℕ) (known : KnownTab) (user : UserId) → LetsIn facts moment known (who_of moment known.state) (realm_of known.opening.version facts) user
     → ready_user (progress_of facts moment known) ≡ Some user
@@ -145,7 +169,7 @@ is_let_in facts moment known user lets =
     ap ready_user (under_is facts moment known (realm_of known.opening.version facts))
     ∙ ap (λ (w : Option UserId). ready_user (under_realm facts moment known w (realm_of known.opening.version facts))) lets.is_theirs
     ∙ ap (λ (r : Option RealmParts). ready_user (under_realm facts moment known (Some user) r)) lets.is_found
-    ∙ in_flow facts moment known user lets.realm lets.holds lets.is_granted_so
+    ∙ in_flow facts moment known user lets.realm lets.holds lets.is_granted_so lets.nothing_pending
 
 -- ---- a tab that may go on
 
@@ -177,6 +201,7 @@ visit_ready facts setting root tab opening user is_opened live h =
       is_unlocked = opened.unlocked;
       is_enabled = opened.enabled;
       holds = lets.holds;
+      nothing_pending = lets.nothing_pending;
       is_granted = lets.is_granted_so;
     }
 
@@ -192,6 +217,7 @@ ready_progress facts moment root tab opening user is_opened ready =
       is_theirs = ready.is_theirs;
       holds = ready.holds;
       is_granted_so = ready.is_granted;
+      nothing_pending = ready.nothing_pending;
     } in
     subst (λ (o : Opening). ready_user (progress_of facts moment (known_at root tab o facts)) ≡ Some user) same
     (is_let_in facts moment (known_at root tab ready.opening facts) user lets)

@@ -4,7 +4,6 @@ use Rattle.std.specs.Prelude.{Option, fold, is_some, unwrap_or, option_and_then,
 use Rattle.std.specs.List.{list_any}
 use Rattle.std.specs.Option.{option_or}
 use Rattle.login_base.specs.IdText.{same_id}
-use Rattle.login_base.specs.declared.id.Code.{Code}
 use Rattle.login_base.specs.declared.id.RootKey.{RootKey}
 use Rattle.login_base.specs.declared.id.SessionId.{SessionId}
 use Rattle.login_base.specs.declared.id.TabKey.{TabKey}
@@ -12,12 +11,13 @@ use Rattle.login_base.specs.declared.id.UserId.{UserId}
 use Rattle.facts.specs.declared.fact.Fact.{Fact}
 use Rattle.facts.specs.declared.fact.Fact.TheVariants as events
 use Rattle.facts.specs.declared.tabs.Opening.{Opening}
+use Rattle.facts.specs.declared.tabs.Page.{Page}
 use Rattle.facts.specs.declared.tabs.RootSession.{RootSession}
 use Rattle.facts.specs.declared.tabs.TabState.{TabState}
 use Rattle.facts.specs.Places.{last_of, after_last}
-use Rattle.facts.specs.Tabs.{tab_state, tab_after, no_tab, is_root, session_after, opening_after, code_after, named_after, completed_after}
+use Rattle.facts.specs.Tabs.{tab_state, tab_after, no_tab, is_root, session_after, opening_after, page_after, named_after, completed_after}
 use Rattle.facts.proofs.PlacesLemmas.{option_or_assoc, option_or_none}
-use Rattle.hall_laws.specs.TabHistory.{opening_by, code_by, name_by, root_by, completes, is_completed, session_by, use_by, ends, session_behind, last_session}
+use Rattle.hall_laws.specs.TabHistory.{opening_by, page_by, name_by, root_by, completes, is_completed, session_by, use_by, ends, session_behind, last_session}
 
 -- ---- the last of a kind
 
@@ -30,9 +30,9 @@ opening_step root tab own (events.Opened of opened version level life moment) =
     either_or (same_id opened.0 tab.0 && same_id of.0 root.0) (record { version = version; level = level; life = life; moment = moment }) own
 opening_step root tab own fact = refl
 
-code_step : (tab : TabKey) (own : Option Code) (fact : Fact) → code_after tab own fact ≡ option_or (code_by tab fact) own
-code_step tab own (events.Rendered of code action offer) = either_or (same_id of.0 tab.0) code own
-code_step tab own fact = refl
+page_step : (tab : TabKey) (own : Option Page) (fact : Fact) → page_after tab own fact ≡ option_or (page_by tab fact) own
+page_step tab own (events.Rendered of code action offer) = either_or (same_id of.0 tab.0) (record { code = code; action = action; offer = offer }) own
+page_step tab own fact = refl
 
 name_step : (tab : TabKey) (own : Option UserId) (fact : Fact) → named_after tab own fact ≡ option_or (name_by tab fact) own
 name_step tab own (events.Named of user) = either_or (same_id of.0 tab.0) user own
@@ -47,11 +47,11 @@ opening_fold root tab state (fact ∷ facts) =
     opening_fold root tab (tab_after root tab state fact) facts
     ∙ one_more (last_of (opening_by root tab) facts) (opening_by root tab fact) state.opening (opening_after root tab state.opening fact) (opening_step root tab state.opening fact)
 
-code_fold : (root : RootKey) (tab : TabKey) (state : TabState) (facts : List Fact) → (fold (tab_after root tab) state facts).code ≡ option_or (last_of (code_by tab) facts) state.code
-code_fold root tab state [] = refl
-code_fold root tab state (fact ∷ facts) =
-    code_fold root tab (tab_after root tab state fact) facts
-    ∙ one_more (last_of (code_by tab) facts) (code_by tab fact) state.code (code_after tab state.code fact) (code_step tab state.code fact)
+page_fold : (root : RootKey) (tab : TabKey) (state : TabState) (facts : List Fact) → (fold (tab_after root tab) state facts).page ≡ option_or (last_of (page_by tab) facts) state.page
+page_fold root tab state [] = refl
+page_fold root tab state (fact ∷ facts) =
+    page_fold root tab (tab_after root tab state fact) facts
+    ∙ one_more (last_of (page_by tab) facts) (page_by tab fact) state.page (page_after tab state.page fact) (page_step tab state.page fact)
 
 name_fold : (root : RootKey) (tab : TabKey) (state : TabState) (facts : List Fact) → (fold (tab_after root tab) state facts).named ≡ option_or (last_of (name_by tab) facts) state.named
 name_fold root tab state [] = refl
@@ -63,9 +63,9 @@ pub opening_is : (root : RootKey) (tab : TabKey) (facts : List Fact) → (tab_st
 unfolding tab_state
 opening_is root tab facts = opening_fold root tab no_tab facts ∙ option_or_none (last_of (opening_by root tab) facts)
 
-pub code_is : (root : RootKey) (tab : TabKey) (facts : List Fact) → (tab_state root tab facts).code ≡ last_of (code_by tab) facts
+pub page_is : (root : RootKey) (tab : TabKey) (facts : List Fact) → (tab_state root tab facts).page ≡ last_of (page_by tab) facts
 unfolding tab_state
-code_is root tab facts = code_fold root tab no_tab facts ∙ option_or_none (last_of (code_by tab) facts)
+page_is root tab facts = page_fold root tab no_tab facts ∙ option_or_none (last_of (page_by tab) facts)
 
 pub name_is : (root : RootKey) (tab : TabKey) (facts : List Fact) → (tab_state root tab facts).named ≡ last_of (name_by tab) facts
 unfolding tab_state

@@ -14,9 +14,9 @@ use Rattle.hall_answers.specs.declared.refusal.Refusal.TheVariants as refusals
 use Rattle.hall_answers.specs.Refusals.{◌>>=◌}
 use Rattle.hall_answers.specs.Setting.{Setting}
 use Rattle.login_progress.specs.declared.known_tab.KnownTab.{KnownTab}
-use Rattle.tab_asks.specs.declared.place.Place.{Place}
-use Rattle.tab_asks.specs.NewTab.{opening_at}
-use Rattle.tab_asks.specs.Visit.{tab_in, tab_with, check_known, check_live, check_tab}
+use Rattle.root_asks.specs.declared.place.Place.{Place}
+use Rattle.root_asks.specs.NewTab.{opening_at}
+use Rattle.tab_pages.specs.Visit.{tab_in, tab_with, check_known, check_live, check_tab}
 use Rattle.hall_laws.specs.Ready.{known_at}
 
 -- ---- lives

@@ -1,9 +1,10 @@
 -- What is known of a tab behind more facts.
-use Rattle.std.proofs.Common.{◌≡◌, ℕ, true, false, List, [], ◌∷◌, ◌++◌, Some, None, refl, sym, ap, ◌∙◌}
+use Rattle.std.proofs.Common.{◌≡◌, ℕ, true, false, List, [], ◌∷◌, ◌++◌, Some, None, refl, sym, ap, ◌∙◌, append_assoc}
 use Rattle.std.specs.Prelude.{Option, fold}
-use Rattle.std.specs.List.{list_any}
+use Rattle.std.specs.List.{All, list_any}
 use Rattle.std.specs.Option.{option_or}
 use Rattle.std.proofs.lemmas.Bool.{eq-eqb}
+use Rattle.std.proofs.lemmas.List.Elements.{All-head, All-tail}
 use Rattle.login_base.specs.IdText.{same_id}
 use Rattle.login_base.specs.declared.id.Id.{Id}
 use Rattle.login_base.specs.declared.id.RootKey.{RootKey}
@@ -11,6 +12,7 @@ use Rattle.login_base.specs.declared.id.TabKey.{TabKey}
 use Rattle.login_base.specs.declared.id.UserId.{UserId}
 use Rattle.asks.specs.declared.ask.Form.{Form}
 use Rattle.asks.specs.declared.ask.Form.TheVariants as forms
+use Rattle.asks.specs.declared.finding.Finding.{Finding}
 use Rattle.facts.specs.declared.fact.Fact.{Fact}
 use Rattle.facts.specs.declared.tabs.RootSession.{RootSession}
 use Rattle.facts.specs.declared.tabs.TabState.{TabState}
@@ -19,13 +21,18 @@ use Rattle.account_states.proofs.StateLemmas.{state_kept}
 use Rattle.facts.specs.Tabs.{tab_state, tab_after}
 use Rattle.facts.proofs.TabLemmas.{tab_state_more}
 use Rattle.hall_answers.specs.Setting.{Setting}
+use Rattle.login_progress.specs.declared.known_tab.KnownTab.{KnownTab}
+use Rattle.tab_asks.specs.declared.check.Credential.{Credential}
 use Rattle.tab_asks.specs.declared.check.Spent.{Spent}
 use Rattle.tab_asks.specs.declared.check.Spent.TheVariants as spends
 use Rattle.tab_asks.specs.declared.passing.Passing.{Passing}
+use Rattle.tab_asks.specs.Deeds.{deed_facts}
 use Rattle.tab_asks.specs.Forms.{code_evidence, evidence_of}
-use Rattle.tab_asks.specs.declared.place.Place.{Place}
-use Rattle.tab_asks.specs.NewTab.{facts_opened, opening_facts, opening_at, opening_fact}
-use Rattle.tab_asks.specs.Pages.{seen_now}
+use Rattle.tab_asks.specs.Post.{accepted_facts}
+use Rattle.root_asks.specs.declared.place.Place.{Place}
+use Rattle.root_asks.specs.NewTab.{facts_opened, opening_facts, opening_at, opening_fact}
+use Rattle.tab_pages.specs.Pages.{seen_now}
+use Rattle.hall_laws.proofs.DeedFacts.{deeds_all}
 
 pub same_id-same : (a : Id) → same_id a a ≡ true
 same_id-same a = rw (eq-eqb a.serial a.serial refl, eq-eqb a.high a.high refl, eq-eqb a.low a.low refl) refl
@@ -99,6 +106,54 @@ unmoved passing (forms.ConfigureOtp value) user = refl
 unmoved passing forms.RecoveryCodes user = refl
 unmoved passing forms.VerifyEmail user = refl
 
-pub account_kept : (old : List Fact) (passing : Passing) (form : Form) (user : UserId)
+evidence_kept : (old : List Fact) (passing : Passing) (form : Form) (user : UserId)
     → state_of user (old ++ evidence_of passing form) ≡ state_of user old
-account_kept old passing form user = state_kept user old (evidence_of passing form) (unmoved passing form user)
+evidence_kept old passing form user = state_kept user old (evidence_of passing form) (unmoved passing form user)
+
+-- ---- behind what an accepted post adds
+
+abbrev LeavesTab : RootKey → TabKey → Fact → Type 0
+LeavesTab root tab fact = (state : TabState) → tab_after root tab state fact ≡ state
+
+left : (root : RootKey) (tab : TabKey) (state : TabState) (facts : List Fact) → All (LeavesTab root tab) facts → fold (tab_after root tab) state facts ≡ state
+left root tab state [] all = refl
+left root tab state (fact ∷ facts) all =
+    ap (λ (s : TabState). fold (tab_after root tab) s facts) (All-head (LeavesTab root tab) fact facts all state)
+    ∙ left root tab state facts (All-tail (LeavesTab root tab) fact facts all)
+
+abbrev MovesNothing : UserId → Fact → Type 0
+MovesNothing user fact = moves_state user fact ≡ false
+
+none_moves : (user : UserId) (facts : List Fact) → All (MovesNothing user) facts → list_any (moves_state user) facts ≡ false
+none_moves user [] all = refl
+none_moves user (fact ∷ facts) all =
+    rw (All-head (MovesNothing user) fact facts all) (none_moves user facts (All-tail (MovesNothing user) fact facts all))
+
+module _ (setting : Setting) (known : KnownTab) (form : Form) (finding : Finding) (user : UserId) (credential : Credential) where
+  abbrev by_post : Passing
+  by_post = record { tab = known.tab; user = user; credential = credential; moment = setting.moment }
+
+  abbrev deeds : List Fact
+  deeds = deed_facts setting known form finding user credential.spent
+
+  -- the tab is as before, but for whom the form names
+  pub accepted_state : (root : RootKey) → tab_state root known.tab (setting.facts ++ accepted_facts setting known form finding user credential)
+      ≡ with_name (tab_state root known.tab setting.facts) (named_as user form)
+  accepted_state root =
+      let evidence = evidence_of by_post form in
+      let P : Fact → Type 0 = LeavesTab root known.tab in
+      ap (tab_state root known.tab) (sym (append_assoc setting.facts evidence deeds))
+      ∙ more_state root known.tab (setting.facts ++ evidence) deeds
+      ∙ left root known.tab (tab_state root known.tab (setting.facts ++ evidence)) deeds
+      (deeds_all P (λ own kind serial secret by s. refl) (λ own action s. refl) (λ serial step s. refl) setting known form finding user credential.spent)
+      ∙ evidence_state root setting.facts by_post form
+
+  -- and every account stands as it stood
+  pub account_kept : (own : UserId) → state_of own (setting.facts ++ accepted_facts setting known form finding user credential) ≡ state_of own setting.facts
+  account_kept own =
+      let evidence = evidence_of by_post form in
+      let P : Fact → Type 0 = MovesNothing own in
+      ap (state_of own) (sym (append_assoc setting.facts evidence deeds))
+      ∙ state_kept own (setting.facts ++ evidence) deeds
+      (none_moves own deeds (deeds_all P (λ of kind serial secret by. refl) (λ of action. refl) (λ serial step. refl) setting known form finding user credential.spent))
+      ∙ evidence_kept setting.facts by_post form own

@@ -1,6 +1,6 @@
 -- A form isn't asked again once its execution is passed.
 use Rattle.std.proofs.Common.{◌≡◌, ℕ, Bool, true, false, ◌&&◌, ◌||◌, List, [], ◌∷◌, Some, None, refl, sym, ap, subst, ◌∙◌}
-use Rattle.std.specs.Prelude.{Option, Ok, if◌then◌else◌}
+use Rattle.std.specs.Prelude.{Option, Ok, find, if◌then◌else◌}
 use Rattle.std.specs.List.{All}
 use Rattle.std.specs.Option.{option_or}
 use Rattle.std.specs.Str.{bytes_eq}
@@ -15,16 +15,19 @@ use Rattle.flow_tree.specs.Flow.{has, flow_holds, flow_needs}
 use Rattle.flow_tree.specs.Places.{places, kind_among, same_kind}
 use Rattle.flow_truths.specs.Granted.{is_granted, levels_reached}
 use Rattle.flow_truths.specs.Truth.{cookie_holds}
+use Rattle.realm_data.specs.declared.action.Action.{Action}
 use Rattle.realm_data.specs.declared.realm_parts.RealmParts.{RealmParts}
 use Rattle.asks.specs.declared.ask.Form.{Form}
 use Rattle.asks.specs.declared.ask.Form.TheVariants as forms
 use Rattle.facts.specs.declared.fact.Fact.{Fact}
 use Rattle.asks.specs.declared.finding.Finding.{Finding}
 use Rattle.asks.specs.declared.reply.Need.{Need}
+use Rattle.facts.specs.declared.tabs.Page.{Page}
 use Rattle.facts.specs.declared.tabs.RootSession.{RootSession}
 use Rattle.facts.specs.declared.tabs.TabState.{TabState}
 use Rattle.facts.specs.declared.user_password.UserPassword.{UserPassword}
 use Rattle.facts.specs.Accounts.{account_named}
+use Rattle.facts.specs.Actions.{is_pending, in_order, first_pending}
 use Rattle.facts.specs.Evidence.{has_evidence}
 use Rattle.facts.specs.Realms.{realm_of}
 use Rattle.facts.specs.Tabs.{is_live, live_among, live_session, user_among, who_of}
@@ -36,14 +39,16 @@ use Rattle.login_progress.specs.Account.{account_of}
 use Rattle.login_progress.specs.Asked.{can_answer, need_of, asked_as, asked_of, blocked, first_denied, first_not_configured, denied_or, not_configured}
 use Rattle.login_progress.specs.Evidence.{is_posted}
 use Rattle.login_progress.specs.Login.{login_in, truths_in}
-use Rattle.login_progress.specs.Progress.{asked_or, lacking, holding, progress_in, progress_of, asked_in}
+use Rattle.login_progress.specs.Progress.{asked_or, lacking, unless_pending, holding, progress_in, progress_of, asked_in, action_in}
 use Rattle.tab_asks.specs.declared.check.Check.TheVariants as checks
 use Rattle.hall_answers.specs.Setting.{Setting}
 use Rattle.tab_asks.specs.declared.check.Credential.{Credential}
 use Rattle.tab_asks.specs.Forms.{named_by, is_need, is_of}
-use Rattle.tab_asks.specs.Post.{has_need, check_of}
-use Rattle.tab_asks.specs.Visit.{same_user, user_of}
-use Rattle.hall_laws.proofs.CodeChecks.{code_fits}
+use Rattle.tab_asks.specs.Deeds.{does, does_asked}
+use Rattle.tab_asks.specs.Post.{has_need, is_asked, check_with}
+use Rattle.tab_pages.specs.Offering.{is_shown}
+use Rattle.tab_pages.specs.Visit.{same_user, user_of}
+use Rattle.hall_laws.proofs.CodeChecks.{code_fits, setup_fits, deed_fits}
 use Rattle.hall_laws.proofs.EvidenceCounts.{HasPassed}
 use Rattle.hall_laws.proofs.Gates.{same_is}
 use Rattle.hall_laws.proofs.PassedLeaves.{id_is, kind_is, leaf_true, passed_counts, posted_true}
@@ -137,13 +142,19 @@ lacking_asks login tree needs =
     asked_in_or (asked_of tree login needs) (blocked tree login.view.account needs)
     (blocked_asks (first_denied tree needs) (first_not_configured tree login.view.account needs))
 
-granted_asks : (granted : Bool) (user : UserId) (levels : List ℕ) (level : ℕ) → asked_in (if granted then progresses.Ready user levels else progresses.LevelMissed level) ≡ []
-granted_asks true user levels level = refl
-granted_asks false user levels level = refl
+pending_asks : (first : Option Action) (user : UserId) (levels : List ℕ) → asked_in (unless_pending first user levels) ≡ []
+pending_asks None user levels = refl
+pending_asks (Some action) user levels = refl
 
-holding_asks : (login : Login) (held : List (List ℕ)) (tree : List Exec) (who : Option UserId) → asked_in (holding login held tree who) ≡ []
-holding_asks login held tree None = refl
-holding_asks login held tree (Some user) = granted_asks (is_granted login.view held tree) user (levels_reached held login.view.level tree) login.view.level
+granted_asks : (granted : Bool) (first : Option Action) (user : UserId) (levels : List ℕ) (level : ℕ)
+    → asked_in (if granted then unless_pending first user levels else progresses.LevelMissed level) ≡ []
+granted_asks true first user levels level = pending_asks first user levels
+granted_asks false first user levels level = refl
+
+holding_asks : (facts : List Fact) (login : Login) (held : List (List ℕ)) (tree : List Exec) (who : Option UserId) → asked_in (holding facts login held tree who) ≡ []
+holding_asks facts login held tree None = refl
+holding_asks facts login held tree (Some user) =
+    granted_asks (is_granted login.view held tree) (first_pending user facts) user (levels_reached held login.view.level tree) login.view.level
 
 holds_unasked : (holds : Bool) (one other : Progress) (form : Form) → asked_in one ≡ [] → has_need (asked_in other) form ≡ false → has_need (asked_in (if holds then one else other)) form ≡ false
 holds_unasked true one other form nothing h = ap (λ asked. has_need asked form) nothing
@@ -159,7 +170,7 @@ progress_lacks facts moment known who (Some realm) form lacks =
     let login = login_in facts moment known who tree in
     let held = truths_in facts moment known who tree in
     let needs = flow_needs held tree in
-    holds_unasked (flow_holds held tree) (holding login held tree who) (lacking login tree needs) form (holding_asks login held tree who)
+    holds_unasked (flow_holds held tree) (holding facts login held tree who) (lacking login tree needs) form (holding_asks facts login held tree who)
     (ap (λ asked. has_need asked form) (lacking_asks login tree needs) ∙ unasked login tree held needs form (lacks tree) (needs_spare held tree))
 
 -- ---- what is passed isn't asked
@@ -227,24 +238,86 @@ IsPostOf user moment state (forms.Username execution name) = state.named ≡ Som
 IsPostOf user moment state (forms.NamePassword execution name password) = state.named ≡ Some user
 IsPostOf user moment state (forms.Password execution password) = who_of moment state ≡ Some user
 IsPostOf user moment state (forms.Value execution value) = who_of moment state ≡ Some user
-IsPostOf user moment state forms.Terms = Unit {0}
-IsPostOf user moment state (forms.UpdatePassword password) = Unit {0}
-IsPostOf user moment state (forms.ConfigureOtp value) = Unit {0}
-IsPostOf user moment state forms.RecoveryCodes = Unit {0}
-IsPostOf user moment state forms.VerifyEmail = Unit {0}
+IsPostOf user moment state forms.Terms = who_of moment state ≡ Some user
+IsPostOf user moment state (forms.UpdatePassword password) = who_of moment state ≡ Some user
+IsPostOf user moment state (forms.ConfigureOtp value) = who_of moment state ≡ Some user
+IsPostOf user moment state forms.RecoveryCodes = who_of moment state ≡ Some user
+IsPostOf user moment state forms.VerifyEmail = ⊥
 
-pub fits_post_of : (setting : Setting) (asked : List Need) (state : TabState) (password : Option UserPassword) (form : Form) (finding : Finding) (user : UserId) (credential : Credential)
-    → check_of setting asked (named_by setting.facts form) (who_of setting.moment state) password form finding ≡ checks.Fits user credential
-    → IsPostOf user setting.moment (with_name state (named_by setting.facts form)) form
-fits_post_of setting asked state password (forms.Username execution name) finding user credential h = ap (λ (n : Option UserId). option_or n state.named) (name_fits (account_named name setting.facts) user credential h)
-fits_post_of setting asked state password (forms.NamePassword execution name given) finding user credential h = ap (λ (n : Option UserId). option_or n state.named) (password_fits (account_named name setting.facts) password finding user credential h)
-fits_post_of setting asked state password (forms.Password execution given) finding user credential h = password_fits (who_of setting.moment state) password finding user credential h
-fits_post_of setting asked state password (forms.Value execution value) finding user credential h = code_fits setting asked (who_of setting.moment state) execution value user credential h
-fits_post_of setting asked state password forms.Terms finding user credential h = tt
-fits_post_of setting asked state password (forms.UpdatePassword given) finding user credential h = tt
-fits_post_of setting asked state password (forms.ConfigureOtp value) finding user credential h = tt
-fits_post_of setting asked state password forms.RecoveryCodes finding user credential h = tt
-fits_post_of setting asked state password forms.VerifyEmail finding user credential h = tt
+pub fits_post_of : (setting : Setting) (known : KnownTab) (asked : List Need) (password : Option UserPassword) (form : Form) (finding : Finding) (user : UserId) (credential : Credential)
+    → check_with setting known asked (named_by setting.facts form) (who_of setting.moment known.state) password form finding ≡ checks.Fits user credential
+    → IsPostOf user setting.moment (with_name known.state (named_by setting.facts form)) form
+fits_post_of setting known asked password (forms.Username execution name) finding user credential h = ap (λ (n : Option UserId). option_or n known.state.named) (name_fits (account_named name setting.facts) user credential h)
+fits_post_of setting known asked password (forms.NamePassword execution name given) finding user credential h = ap (λ (n : Option UserId). option_or n known.state.named) (password_fits (account_named name setting.facts) password finding user credential h)
+fits_post_of setting known asked password (forms.Password execution given) finding user credential h = password_fits (who_of setting.moment known.state) password finding user credential h
+fits_post_of setting known asked password (forms.Value execution value) finding user credential h = code_fits setting asked (who_of setting.moment known.state) execution value user credential h
+fits_post_of setting known asked password forms.Terms finding user credential h = deed_fits (who_of setting.moment known.state) user credential h
+fits_post_of setting known asked password (forms.UpdatePassword given) finding user credential h = deed_fits (who_of setting.moment known.state) user credential h
+fits_post_of setting known asked password (forms.ConfigureOtp value) finding user credential h = setup_fits setting known.state.page (who_of setting.moment known.state) value user credential h
+fits_post_of setting known asked password forms.RecoveryCodes finding user credential h = deed_fits (who_of setting.moment known.state) user credential h
+fits_post_of setting known asked password forms.VerifyEmail finding user credential h = absurd cc
+
+-- ---- an action is asked of the user for whom it is the first one that is pending
+
+-- the user is known, and it is the first one that is pending
+abbrev IsFirst : List Fact → Option UserId → Action → Type 0
+IsFirst facts None action = ⊥
+IsFirst facts (Some user) action = first_pending user facts ≡ Some action
+
+acts_or : (asked : List Need) (other : Progress) → action_in other ≡ None → action_in (asked_or asked other) ≡ None
+acts_or [] other h = h
+acts_or (need ∷ asked) other h = refl
+
+blocked_acts : (denied missing : Option (List ℕ)) → action_in (denied_or denied (not_configured missing)) ≡ None
+blocked_acts (Some id) missing = refl
+blocked_acts None None = refl
+blocked_acts None (Some id) = refl
+
+lacking_acts : (login : Login) (tree : List Exec) (needs : List (List ℕ)) → action_in (lacking login tree needs) ≡ None
+unfolding blocked
+lacking_acts login tree needs =
+    acts_or (asked_of tree login needs) (blocked tree login.view.account needs)
+    (blocked_acts (first_denied tree needs) (first_not_configured tree login.view.account needs))
+
+pending_acts : (first : Option Action) (user : UserId) (levels : List ℕ) (action : Action) → action_in (unless_pending first user levels) ≡ Some action → first ≡ Some action
+pending_acts None user levels action h = absurd cc
+pending_acts (Some own) user levels action h = h
+
+granted_acts : (granted : Bool) (first : Option Action) (user : UserId) (levels : List ℕ) (level : ℕ) (action : Action)
+    → action_in (if granted then unless_pending first user levels else progresses.LevelMissed level) ≡ Some action → first ≡ Some action
+granted_acts true first user levels level action h = pending_acts first user levels action h
+granted_acts false first user levels level action h = absurd cc
+
+holds_acts : (holds : Bool) (facts : List Fact) (login : Login) (held : List (List ℕ)) (tree : List Exec) (who : Option UserId) (other : Progress) (action : Action) → action_in other ≡ None
+    → action_in (if holds then holding facts login held tree who else other) ≡ Some action → IsFirst facts who action
+holds_acts true facts login held tree None other action none h = absurd cc
+holds_acts true facts login held tree (Some user) other action none h =
+    granted_acts (is_granted login.view held tree) (first_pending user facts) user (levels_reached held login.view.level tree) login.view.level action h
+holds_acts false facts login held tree who other action none h = absurd cc
+
+acts_for : (facts : List Fact) (moment : ℕ) (known : KnownTab) (who : Option UserId) (realm : Option RealmParts) (action : Action)
+    → action_in (under_realm facts moment known who realm) ≡ Some action → IsFirst facts who action
+unfolding progress_in
+acts_for facts moment known who None action h = absurd cc
+acts_for facts moment known who (Some realm) action h =
+    let tree = realm.flow in
+    let login = login_in facts moment known who tree in
+    let held = truths_in facts moment known who tree in
+    holds_acts (flow_holds held tree) facts login held tree who (lacking login tree (flow_needs held tree)) action (lacking_acts login tree (flow_needs held tree)) h
+
+found_if : (p : Action → Bool) (own action : Action) (b : Bool) (rest : Option Action) → p own ≡ b → (rest ≡ Some action → p action ≡ true)
+    → (if b then Some own else rest) ≡ Some action → p action ≡ true
+found_if p own action true rest e more h = let same : own ≡ action = cc in ap p (sym same) ∙ e
+found_if p own action false rest e more h = more h
+
+-- what is found is pending
+found : (p : Action → Bool) (order : List Action) (action : Action) → find p order ≡ Some action → p action ≡ true
+found p [] action h = absurd cc
+found p (own ∷ order) action h = found_if p own action (p own) (find p order) refl (found p order action) h
+
+-- the action of the form is done
+abbrev pub HasDone : List Fact → UserId → Form → Type 0
+HasDone facts user form = (action : Action) → does form action ≡ true → is_pending user facts action ≡ false
 
 module _ (facts : List Fact) (moment later : ℕ) (known : KnownTab) (user : UserId) where
   -- the executions that are asked of this one at the later moment
@@ -283,7 +356,7 @@ module _ (facts : List Fact) (moment later : ℕ) (known : KnownTab) (user : Use
       lacks_later form (who_of later known.state) refl before after (named_who (live_session moment known.state) known.state.named user is before) passed
       (λ none. absurd (named_known (live_session later known.state) known.state.named user is none))
 
-  pub form_lacks : (form : Form) → IsPostOf user moment known.state form
+  form_lacks : (form : Form) → IsPostOf user moment known.state form
       → same_user known.state.named (user_of (live_session moment known.state)) ≡ Ok tt → HasPassed facts known.tab user form
       → same_user known.state.named (user_of (live_session later known.state)) ≡ Ok tt → has_need (asked_in (progress_of facts later known)) form ≡ false
   form_lacks (forms.Username execution name) of before passed after = named_lacks (forms.Username execution name) of before after passed
@@ -299,3 +372,54 @@ module _ (facts : List Fact) (moment later : ℕ) (known : KnownTab) (user : Use
   form_lacks (forms.ConfigureOtp value) of before passed after = never_asked (asked_in (progress_of facts later known)) (forms.ConfigureOtp value) (λ need. refl)
   form_lacks forms.RecoveryCodes of before passed after = never_asked (asked_in (progress_of facts later known)) forms.RecoveryCodes (λ need. refl)
   form_lacks forms.VerifyEmail of before passed after = never_asked (asked_in (progress_of facts later known)) forms.VerifyEmail (λ need. refl)
+
+  -- ---- the form does no action that is asked
+
+  pending_later : (who : Option UserId) → who_of later known.state ≡ who
+      → same_user known.state.named (user_of (live_session moment known.state)) ≡ Ok tt → same_user known.state.named (user_of (live_session later known.state)) ≡ Ok tt
+      → who_of moment known.state ≡ Some user → (action : Action) → IsFirst facts who action → is_pending user facts action ≡ true
+  unfolding first_pending
+  pending_later None is before after whose action first = absurd first
+  pending_later (Some now) is before after whose action first =
+      let e = same_later known.state.session moment later known.state.named user now before after whose is in
+      found (is_pending user facts) in_order action (subst (λ (u : UserId). find (is_pending u facts) in_order ≡ Some action) e first)
+
+  undone : (form : Form) (page : Option Page) (action : Action) (done : Bool) → does form action ≡ done → (done ≡ true → ⊥) → (does form action && is_shown page action) ≡ false
+  undone form page action false h none = rw h refl
+  undone form page action true h none = absurd (none refl)
+
+  does_none : (form : Form) (page : Option Page)
+      → same_user known.state.named (user_of (live_session moment known.state)) ≡ Ok tt → same_user known.state.named (user_of (live_session later known.state)) ≡ Ok tt
+      → who_of moment known.state ≡ Some user → HasDone facts user form
+      → (first : Option Action) → action_in (progress_of facts later known) ≡ first → does_asked first page form ≡ false
+  unfolding progress_of
+  does_none form page before after whose done None is = refl
+  does_none form page before after whose done (Some action) is =
+      let found_realm = realm_of known.opening.version facts in
+      let acts = acts_for facts later known (who_of later known.state) found_realm action (sym (ap action_in (under_is facts later known found_realm)) ∙ is) in
+      let pending = pending_later (who_of later known.state) refl before after whose action acts in
+      undone form page action (does form action) refl (λ does_so. let settled = done action does_so in absurd cc)
+
+  -- no form of an execution does an action
+  never_does : (form : Form) (page : Option Page) (first : Option Action) → ((action : Action) → does form action ≡ false) → does_asked first page form ≡ false
+  never_does form page None none = refl
+  never_does form page (Some action) none = rw (none action) refl
+
+  does_later : (form : Form) (page : Option Page) → IsPostOf user moment known.state form
+      → same_user known.state.named (user_of (live_session moment known.state)) ≡ Ok tt → same_user known.state.named (user_of (live_session later known.state)) ≡ Ok tt
+      → HasDone facts user form → does_asked (action_in (progress_of facts later known)) page form ≡ false
+  does_later (forms.Username execution name) page of before after done = never_does (forms.Username execution name) page _ (λ action. refl)
+  does_later (forms.NamePassword execution name password) page of before after done = never_does (forms.NamePassword execution name password) page _ (λ action. refl)
+  does_later (forms.Password execution password) page of before after done = never_does (forms.Password execution password) page _ (λ action. refl)
+  does_later (forms.Value execution value) page of before after done = never_does (forms.Value execution value) page _ (λ action. refl)
+  does_later forms.Terms page of before after done = does_none forms.Terms page before after of done _ refl
+  does_later (forms.UpdatePassword password) page of before after done = does_none (forms.UpdatePassword password) page before after of done _ refl
+  does_later (forms.ConfigureOtp value) page of before after done = does_none (forms.ConfigureOtp value) page before after of done _ refl
+  does_later forms.RecoveryCodes page of before after done = does_none forms.RecoveryCodes page before after of done _ refl
+  does_later forms.VerifyEmail page of before after done = absurd of
+
+  -- so it isn't asked
+  pub form_unasked : (form : Form) (page : Option Page) → IsPostOf user moment known.state form
+      → same_user known.state.named (user_of (live_session moment known.state)) ≡ Ok tt → HasPassed facts known.tab user form → HasDone facts user form
+      → same_user known.state.named (user_of (live_session later known.state)) ≡ Ok tt → is_asked (progress_of facts later known) page form ≡ false
+  form_unasked form page of before passed done after = rw (form_lacks form of before passed after, does_later form page of before after done) refl

@@ -23,7 +23,7 @@ unmarked fact h = refl
 pub ask_counts : (setting : Setting) (ask : Ask) (finding : Finding) → HasCodesCounted setting.facts → HasCodesCounted (setting.facts ++ (due_ask setting ask finding).added)
 ask_counts setting ask finding counted =
     codes_kept setting.facts (due_ask setting ask finding).added
-    (ask_all IsUnmarked (plain_allows IsUnmarked unmarked) setting ask finding (λ user opened. refl) (λ post accepted.
+    (ask_all IsUnmarked (plain_allows IsUnmarked unmarked) (λ tab user session moment. refl) setting ask finding (λ user opened. refl) (λ credential step. refl) (λ key. refl) (λ post accepted.
     let passing : Passing = record { tab = accepted.known.tab; user = accepted.user; credential = accepted.credential; moment = setting.moment } in
     evidence_all IsUnmarked (λ p. refl) (λ p execution kind. refl) (λ credential step. refl) (λ credential number. refl) passing post.form)) counted
 

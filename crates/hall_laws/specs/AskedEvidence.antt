@@ -8,11 +8,13 @@ use Rattle.asks.specs.declared.ask.Form.TheVariants as forms
 use Rattle.asks.specs.declared.ask.Post.{Post}
 use Rattle.facts.specs.declared.fact.Fact.{Fact}
 use Rattle.facts.specs.declared.fact.Fact.TheVariants as events
+use Rattle.facts.specs.Tabs.{shown_code}
 use Rattle.hall_answers.specs.Setting.{Setting}
 use Rattle.login_progress.specs.declared.known_tab.KnownTab.{KnownTab}
+use Rattle.login_progress.specs.Progress.{asked_in}
 use Rattle.tab_asks.specs.Post.{has_need}
-use Rattle.tab_asks.specs.Visit.{check_tab}
-use Rattle.hall_laws.specs.Ready.{asked_at}
+use Rattle.tab_pages.specs.Visit.{check_tab}
+use Rattle.hall_laws.specs.Ready.{progress_at}
 
 -- the execution that a form names, if any
 abbrev pub execution_of : Form → Option (List ℕ)
@@ -36,9 +38,9 @@ pub record IsRightEvidence (setting : Setting) (post : Post) (tab : TabKey) (exe
   pub known : KnownTab
   pub is_known : check_tab setting.facts setting.moment post.root post.tab ≡ Ok known
   -- the post's code is the one that the tab showed last
-  pub is_shown : known.state.code ≡ Some post.code
+  pub is_shown : shown_code known.state ≡ Some post.code
   -- the tab asks an execution that the form answers
-  pub is_asked : has_need (asked_at setting known) post.form ≡ true
+  pub is_asked : has_need (asked_in (progress_at setting known)) post.form ≡ true
 
 -- the fact is right evidence after the post, or none
 abbrev pub IsAskedEvidence : Setting → Post → Fact → Type 0

@@ -1,5 +1,6 @@
 pub mod AskedEvidence
 pub mod Closing
+pub mod CompletedOnce
 pub mod Levels
 pub mod Ready
 pub mod Repeats

@@ -9,11 +9,11 @@ use Rattle.asks.specs.declared.ask.NewTab.{NewTab}
 use Rattle.asks.specs.declared.ask.Post.{Post}
 use Rattle.facts.specs.declared.fact.Fact.{Fact}
 use Rattle.asks.specs.declared.finding.Finding.{Finding}
-use Rattle.asks.specs.declared.reply.Need.{Need}
 use Rattle.asks.specs.declared.reply.What.{What}
 use Rattle.asks.specs.declared.reply.What.TheVariants as whats
 use Rattle.facts.specs.declared.tabs.Opening.{Opening}
 use Rattle.facts.specs.declared.tabs.RootSession.{RootSession}
+use Rattle.facts.specs.Actions.{first_pending}
 use Rattle.facts.specs.Realms.{realm_of}
 use Rattle.facts.specs.Tabs.{tab_state, tab_is_live, live_session, who_of}
 use Rattle.account_states.specs.States.{is_closed}
@@ -22,13 +22,14 @@ use Rattle.hall_answers.specs.Setting.{Setting}
 use Rattle.lockout.specs.Standing.{is_locked}
 use Rattle.login_progress.specs.declared.known_tab.KnownTab.{KnownTab}
 use Rattle.login_progress.specs.Login.{truths_in, is_granted_in}
-use Rattle.login_progress.specs.Progress.{progress_of, asked_in}
+use Rattle.login_progress.specs.declared.progress.Progress.{Progress}
+use Rattle.login_progress.specs.Progress.{progress_of}
 use Rattle.tab_asks.specs.declared.check.Check.TheVariants.{Fits}
 use Rattle.tab_asks.specs.declared.check.Credential.{Credential}
-use Rattle.tab_asks.specs.declared.place.Place.{Place}
-use Rattle.tab_asks.specs.NewTab.{check_new_tab, facts_opened}
-use Rattle.tab_asks.specs.Post.{check_post, check_form, evidence_by}
-use Rattle.tab_asks.specs.Visit.{check_tab}
+use Rattle.root_asks.specs.declared.place.Place.{Place}
+use Rattle.root_asks.specs.NewTab.{check_new_tab, facts_opened}
+use Rattle.tab_asks.specs.Post.{check_post, check_form, accepted_facts}
+use Rattle.tab_pages.specs.Visit.{check_tab}
 
 -- a tab of a root with this opening, and what the facts say of it
 abbrev pub known_at : RootKey → TabKey → Opening → List Fact → KnownTab
@@ -58,6 +59,8 @@ pub record IsReady (facts : List Fact) (moment : ℕ) (root : RootKey) (tab : Ta
   -- the realm's flow holds over what is true in the tab for the user
   pub holds :
       flow_holds (truths_in facts moment (known_at root tab opening facts) (Some user) realm.flow) realm.flow ≡ true
+  -- nothing is pending for the user: each action that was required of the user was done since
+  pub nothing_pending : first_pending user facts ≡ None
   -- the level that the tab asks is granted to the user
   pub is_granted : is_granted_in facts moment (known_at root tab opening facts) (Some user) realm.flow ≡ true
 
@@ -74,9 +77,9 @@ pub record IsReadyAtOpening (setting : Setting) (new : NewTab) (user : UserId) :
   -- with the opening behind the facts
   pub ready : IsReady (facts_opened setting place) setting.moment place.root place.tab user
 
--- the executions that a tab asks
-abbrev pub asked_at : Setting → KnownTab → List Need
-asked_at setting known = asked_in (progress_of setting.facts setting.moment known)
+-- how far the login of a tab has come
+abbrev pub progress_at : Setting → KnownTab → Progress
+progress_at setting known = progress_of setting.facts setting.moment known
 
 -- the post is accepted: nothing refuses it, and its check fits
 pub record IsAccepted (setting : Setting) (post : Post) (finding : Finding) : Type 0 where
@@ -90,16 +93,16 @@ pub record IsAccepted (setting : Setting) (post : Post) (finding : Finding) : Ty
   pub user : UserId
   pub credential : Credential
   pub fits :
-      check_form setting known (asked_at setting known) named post.form finding
+      check_form setting known (progress_at setting known) named post.form finding
       ≡ Ok (Fits user credential)
 
--- the facts with the evidence of an accepted post behind them
+-- the facts with what an accepted post adds behind them: its evidence, or what its action does
 abbrev pub facts_accepted : (setting : Setting) (post : Post) (finding : Finding) → IsAccepted setting post finding
     → List Fact
 facts_accepted setting post finding accepted =
-    setting.facts ++ evidence_by setting accepted.known post.form accepted.user accepted.credential
+    setting.facts ++ accepted_facts setting accepted.known post.form finding accepted.user accepted.credential
 
--- the post is accepted, and the user is ready over the facts with its evidence
+-- the post is accepted, and the user is ready over the facts with what it adds
 pub record IsReadyAfterPost (setting : Setting) (post : Post) (finding : Finding) (user : UserId) : Type 0 where
   pub accepted : IsAccepted setting post finding
   pub ready :

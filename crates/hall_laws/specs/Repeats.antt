@@ -14,7 +14,7 @@ use Rattle.hall_answers.specs.declared.answer.Answer.{Answer}
 use Rattle.hall_answers.specs.Answers.{in_tab, only}
 use Rattle.hall_answers.specs.Setting.{Setting}
 use Rattle.login_progress.specs.declared.known_tab.KnownTab.{KnownTab}
-use Rattle.tab_asks.specs.Visit.{check_tab}
+use Rattle.tab_pages.specs.Visit.{check_tab}
 
 -- the serial of the code that a fact shows, 0 where it shows none
 abbrev pub code_serial : Fact → ℕ

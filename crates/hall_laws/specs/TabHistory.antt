@@ -2,7 +2,6 @@
 use Rattle.std.specs.Prelude.{ℕ, Bool, false, ◌&&◌, List, Option, Some, None, unwrap_or, option_and_then, if◌then◌else◌}
 use Rattle.std.specs.List.{list_any}
 use Rattle.login_base.specs.IdText.{same_id}
-use Rattle.login_base.specs.declared.id.Code.{Code}
 use Rattle.login_base.specs.declared.id.RootKey.{RootKey}
 use Rattle.login_base.specs.declared.id.SessionId.{SessionId}
 use Rattle.login_base.specs.declared.id.TabKey.{TabKey}
@@ -10,6 +9,7 @@ use Rattle.login_base.specs.declared.id.UserId.{UserId}
 use Rattle.facts.specs.declared.fact.Fact.{Fact}
 use Rattle.facts.specs.declared.fact.Fact.TheVariants as events
 use Rattle.facts.specs.declared.tabs.Opening.{Opening}
+use Rattle.facts.specs.declared.tabs.Page.{Page}
 use Rattle.facts.specs.declared.tabs.RootSession.{RootSession}
 use Rattle.facts.specs.Places.{last_of, after_last}
 use Rattle.facts.specs.Tabs.{is_root}
@@ -23,10 +23,11 @@ opening_by root tab (events.Opened of opened version level life moment) =
     then Some (record { version = version; level = level; life = life; moment = moment }) else None
 opening_by root tab event = None
 
--- the code of a page of the tab
-abbrev pub code_by : TabKey → Fact → Option Code
-code_by tab (events.Rendered of code action offer) = if same_id of.0 tab.0 then Some code else None
-code_by tab event = None
+-- a page of the tab
+abbrev pub page_by : TabKey → Fact → Option Page
+page_by tab (events.Rendered of code action offer) =
+    if same_id of.0 tab.0 then Some (record { code = code; action = action; offer = offer }) else None
+page_by tab event = None
 
 -- whom a fact names in the tab
 abbrev pub name_by : TabKey → Fact → Option UserId

@@ -1,8 +1,8 @@
 //! When an answer says that a login is complete: exactly where it is ready.
 ghost use Rattle.std.specs.Prelude.{◌≡◌, ◌↔◌, Some, None};
 ghost use Rattle.hall_laws.specs.Ready.{IsReady, IsReadyAtOpening, IsReadyAfterPost, done_for};
-ghost use Rattle.tab_asks.specs.NewTab.{due_new_tab};
-ghost use Rattle.tab_asks.specs.Pages.{due_page};
+ghost use Rattle.root_asks.specs.NewTab.{due_new_tab};
+ghost use Rattle.tab_pages.specs.Pages.{due_page};
 ghost use Rattle.tab_asks.specs.Post.{due_post};
 
 use facts::{Finding, NewTab, Post};

@@ -6,7 +6,7 @@ use Rattle.login_base.specs.Outside.{before_known, after_known, Rose, IsAtEnd}
 use Rattle.realm_data.specs.declared.realm_parts.RealmParts.{RealmParts}
 use Rattle.login_desk.specs.declared.command.Command.{Command}
 use Rattle.login_desk.specs.declared.command.Command.TheVariants as commands
-use Rattle.login_desk.specs.declared.realm_given.NoRealm.{NoRealm}
+use Rattle.realm_fields.specs.declared.fault.RealmFault.{RealmFault}
 use Rattle.login_desk.specs.declared.status.Outcome.{Outcome}
 use Rattle.login_desk.specs.declared.status.Outcome.TheVariants as outcomes
 use Rattle.login_desk.specs.Causes.{IsReplayed, IsChecked, IsRefused, IsUnreadable, IsPutFailed, IsOutOfMemory, IsTooLong, HasNoRealm, HasRealm, HasAll, IsShort}
@@ -14,7 +14,7 @@ use Rattle.login_desk.specs.Causes.IsUnreadable.{Realm, Script}
 use Rattle.login_desk.specs.Causes.IsPutFailed.{Usage, Fault, Refusal, Line, Replies}
 use Rattle.login_desk.specs.Causes.IsOutOfMemory.{Nothing, Front}
 use Rattle.login_desk.specs.Outside.{OutsideState, IsUnread, IsFaultless}
-use Rattle.login_desk.specs.RealmGiven.{realm_for}
+use Rattle.login_desk.specs.RealmGiven.{realm_given}
 use Rattle.login_desk.specs.Run.{LineMeans, RunMeans, TakesRealm, TakesNoRealm, is_status, usage_line}
 use Rattle.login_desk.specs.Run.LineMeans.{Told, Cut}
 use Rattle.login_desk.specs.Run.ReplayMeans.{Answered, Stopped, CutOff, Starved, Overlong}
@@ -234,19 +234,19 @@ module _ {S R : Type 0} (old new : OutsideState S R) where
       go None e h = h
       go (Some all) e h =
           let same = all_taken all t.bytes new.realm.left (sym e ∙ t.taken) t.end in
-          let ok : IsOk (realm_for command all) = rw (same, t.meant) refl in
-          not_both (realm_for command all) ok h
+          let ok : IsOk (realm_given all) = rw (same, t.meant) refl in
+          not_both (realm_given all) ok h
 
-  is_no_realm : (command : Command) (refusal : NoRealm) → TakesNoRealm command old new refusal → HasRealm command old.realm.left → ⊥
+  is_no_realm : (command : Command) (refusal : RealmFault) → TakesNoRealm command old new refusal → HasRealm command old.realm.left → ⊥
   is_no_realm command refusal t h = go old.realm.left refl h t.whole
     where
       go : (told : Option (List ℕ)) → old.realm.left ≡ told → HasRealm command told → IsAtEnd new.realm.left ⊎ (whole_limit < length t.bytes) → ⊥
       go None e h w = h
       go (Some all) e h (inl end) =
           let same = all_taken all t.bytes new.realm.left (sym e ∙ t.taken) end in
-          let err : IsErr (realm_for command all) = rw (same, t.meant) refl in
-          not_both (realm_for command all) h err
-      go (Some all) e h (inr many) = not_both (realm_for command all) h (ap is_err (too_many command all (not_fewer all t.bytes new.realm.left whole_limit (sym e ∙ t.taken) many)))
+          let err : IsErr (realm_given all) = rw (same, t.meant) refl in
+          not_both (realm_given all) h err
+      go (Some all) e h (inr many) = not_both (realm_given all) h (ap is_err (too_many all (not_fewer all t.bytes new.realm.left whole_limit (sym e ∙ t.taken) many)))
 
   module _ (status : ℕ) (faultless : IsFaultless old new) where
     pub refused : (command : Option Command) → RunMeans command old new status → IsSomeAnd command (λ c. HasNoRealm c old.realm.left) → (status ≡ 3) ⊎ (status ≡ 7)

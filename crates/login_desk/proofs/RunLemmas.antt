@@ -1,18 +1,13 @@
 -- A run, part after part.
-use Rattle.std.proofs.Common.{◌≡◌, ℕ, ◌<◌, Bool, true, false, List, [], ◌∷◌, ◌++◌, Some, None, Ok, Err, length, refl, sym, ap, subst, ◌∙◌, append_assoc, inl, inr, arith}
-use Rattle.std.specs.Prelude.{Option, Result, ◌⊎◌, if◌then◌else◌}
+use Rattle.std.proofs.Common.{◌≡◌, ℕ, ◌<◌, List, [], ◌∷◌, ◌++◌, Err, length, refl, sym, ap, subst, ◌∙◌, append_assoc, inl, inr, arith}
+use Rattle.std.specs.Prelude.{Option, ◌⊎◌}
 use Rattle.std.proofs.lemmas.Bool.{lt-ltb}
 use Rattle.std.proofs.lemmas.List.{append-nil}
 use Rattle.facts.specs.declared.fact.Fact.{Fact}
-use Rattle.realm_data.specs.declared.realm_parts.RealmParts.{RealmParts}
-use Rattle.realm_data.specs.RealmBuilt.{is_built}
 use Rattle.realm_fields.specs.declared.fault.RealmFault.TheVariants.{OutOfRange}
-use Rattle.login_hall.specs.Start.{IsPlayable}
 use Rattle.login_base.specs.Outside.{before_known, after_known, Rose, IsAtEnd}
 use Rattle.login_desk.specs.declared.command.Command.{Command}
-use Rattle.login_desk.specs.declared.command.Command.TheVariants as commands
-use Rattle.login_desk.specs.declared.realm_given.NoRealm.{NoRealm}
-use Rattle.login_desk.specs.declared.realm_given.NoRealm.TheVariants as refusals
+use Rattle.realm_fields.specs.declared.fault.RealmFault.{RealmFault}
 use Rattle.login_desk.specs.declared.status.Outcome.{Outcome}
 use Rattle.login_desk.specs.declared.status.Outcome.TheVariants as outcomes
 use Rattle.script_lines.specs.Lines.{whole_lines}
@@ -20,7 +15,7 @@ use Rattle.login_desk.specs.Outcome.{IsStopped, IsOverlong, read_line, script_li
 use Rattle.login_desk.specs.Outcome.IsReplyDue.{Fault, Limit}
 use Rattle.login_desk.specs.Outside.{SourceState, OutsideState, IsUnread, IsUnwritten}
 use Rattle.script_play.specs.Play.{play_text}
-use Rattle.login_desk.specs.RealmGiven.{realm_given, realm_played, realm_for, refusal_line}
+use Rattle.login_desk.specs.RealmGiven.{realm_given, refusal_line}
 use Rattle.login_desk.specs.Run.{LineMeans, LineEnds, ReplayMeans, BytesMean, CommandMeans}
 use Rattle.login_desk.specs.Run.LineMeans.{Told, Cut}
 use Rattle.login_desk.specs.Run.ReplayMeans.{Stopped, CutOff, Overlong}
@@ -91,32 +86,13 @@ module _ {S R : Type 0} (base : List Fact) (old mid new : OutsideState S R) (out
 
 -- ---- the realm, and what comes after it
 
--- a realm with which a replay goes on can be played
-module _ where
-  of_built : (realm : RealmParts) (t : Bool) → is_built realm ≡ t → (given : Option RealmParts) → (if t then Ok (Some realm) else Err refusals.NotYet) ≡ Ok given → IsPlayable given
-  of_built realm true e None h = tt
-  of_built realm true e (Some given) h = let same : realm ≡ given = cc in subst (λ r. is_built r ≡ true) same e
-  of_built realm false e given h = absurd cc
-
-  of_given : (r : Result (Option RealmParts) NoRealm) (given : Option RealmParts) → realm_played r ≡ Ok given → IsPlayable given
-  of_given (Ok None) None h = tt
-  of_given (Ok None) (Some given) h = absurd cc
-  of_given (Ok (Some realm)) given h = of_built realm (is_built realm) refl given h
-  of_given (Err refusal) given h = absurd cc
-
-  pub playable : (command : Command) (bytes : List ℕ) (given : Option RealmParts) → realm_for command bytes ≡ Ok given → command ≡ commands.Replay → IsPlayable given
-  unfolding realm_for
-  playable commands.Check bytes given h is = absurd cc
-  playable commands.Replay bytes given h is = of_given (realm_given bytes) given h
-
 -- more bytes than a realm may have are none
-pub too_many : (command : Command) (bytes : List ℕ) → whole_limit < length bytes → realm_for command bytes ≡ Err (refusals.Fault (OutOfRange []))
-unfolding realm_for
-too_many command [] many = absurd (omega arith)
-too_many commands.Check (b ∷ bytes) many = rw (lt-ltb whole_limit (length (b ∷ bytes)) many) refl
-too_many commands.Replay (b ∷ bytes) many = rw (lt-ltb whole_limit (length (b ∷ bytes)) many) refl
+pub too_many : (bytes : List ℕ) → whole_limit < length bytes → realm_given bytes ≡ Err (OutOfRange [])
+unfolding realm_given
+too_many [] many = absurd (omega arith)
+too_many (b ∷ bytes) many = rw (lt-ltb whole_limit (length (b ∷ bytes)) many) refl
 
-pub denied : {S R : Type 0} (command : Command) (bytes : List ℕ) (old new : OutsideState S R) (refusal : NoRealm) (outcome : Outcome) → new.script ≡ old.script → realm_for command bytes ≡ Err refusal
+pub denied : {S R : Type 0} (command : Command) (bytes : List ℕ) (old new : OutsideState S R) (refusal : RealmFault) (outcome : Outcome) → new.script ≡ old.script → realm_given bytes ≡ Err refusal
     → LineMeans (refusal_line refusal) 3 old new (number_of outcome) ⊎ ((outcome ≡ outcomes.Memory) × (new.written ≡ old.written)) → BytesMean command bytes old new (number_of outcome)
 denied command bytes old new refusal outcome u meant (inl l) = Denied u refusal meant l
 denied command bytes old new refusal outcome u meant (inr w) = Unmet u (ap number_of w.0) w.1
@@ -141,12 +117,12 @@ module _ {S R : Type 0} (command : Command) (old mid new : OutsideState S R) (sc
   }) (work old mid new script unwritten command given status w)
 
   pub at_many : (outcome : Outcome) → new.script ≡ mid.script → TakesTooMany old.realm.left mid.realm.left
-      → LineMeans (refusal_line (refusals.Fault (OutOfRange []))) 3 mid new (number_of outcome) ⊎ ((outcome ≡ outcomes.Memory) × (new.written ≡ mid.written)) → CommandMeans command old new (number_of outcome)
+      → LineMeans (refusal_line (OutOfRange [])) 3 mid new (number_of outcome) ⊎ ((outcome ≡ outcomes.Memory) × (new.written ≡ mid.written)) → CommandMeans command old new (number_of outcome)
   at_many outcome u t (inl l) = Refused (u ∙ script) _ (record {
     bytes = t.bytes;
     taken = t.taken ∙ ap (before_known t.bytes) left;
     whole = inr t.many;
-    meant = too_many command t.bytes t.many;
+    meant = too_many t.bytes t.many;
   }) (line old mid new script unwritten _ 3 (number_of outcome) l)
   at_many outcome u t (inr w) = Unmade (u ∙ script) (ap number_of w.0) (w.1 ∙ unwritten.written)
 

@@ -4,12 +4,12 @@ use Rattle.login_base.specs.Outside.{after_known, Rose}
 use Rattle.realm_data.specs.declared.realm_parts.RealmParts.{RealmParts}
 use Rattle.login_desk.specs.declared.command.Command.{Command}
 use Rattle.login_desk.specs.declared.command.Command.TheVariants as commands
-use Rattle.login_desk.specs.declared.realm_given.NoRealm.{NoRealm}
+use Rattle.realm_fields.specs.declared.fault.RealmFault.{RealmFault}
 use Rattle.realm_check.specs.Check.{check_line}
 use Rattle.login_desk.specs.Outcome.{IsAnswered, IsStopped, IsOverlong, IsStarved, IsCutOff, read_line, script_line}
 use Rattle.login_desk.specs.Outside.{OutsideState}
 use Rattle.script_play.specs.Base.{or_builtin, base_of}
-use Rattle.login_desk.specs.RealmGiven.{realm_for, refusal_line}
+use Rattle.login_desk.specs.RealmGiven.{realm_given, refusal_line}
 use Rattle.login_desk.specs.Run.{TakesRealm, TakesNoRealm, MeetsRealmFault, usage_line}
 use Rattle.login_desk.specs.Turn.{WritesFront}
 
@@ -31,7 +31,7 @@ pub record IsChecked {S R : Type 0} (old new : OutsideState S R) : Type 0 where
 
 -- the bytes of the realm source are no realm for the command, and the line on it is written; the script isn't read
 pub record IsRefused {S R : Type 0} (command : Command) (old new : OutsideState S R) : Type 0 where
-  pub refusal : NoRealm
+  pub refusal : RealmFault
   pub no_realm : TakesNoRealm command old new refusal
   pub line : new.written ≡ after_known old.written (refusal_line refusal)
   pub unread : new.script ≡ old.script
@@ -49,7 +49,7 @@ pub data IsUnreadable {S R : Type 0} (command : Command) (old new : OutsideState
 pub data IsPutFailed {S R : Type 0} (old new : OutsideState S R) : Option Command → Type 0 where
   Usage : WritesFront old.written new.written usage_line → IsPutFailed old new None
   Fault : (command : Command) → MeetsRealmFault old new → WritesFront old.written new.written read_line → IsPutFailed old new (Some command)
-  Refusal : (command : Command) (refusal : NoRealm) → TakesNoRealm command old new refusal → WritesFront old.written new.written (refusal_line refusal) → IsPutFailed old new (Some command)
+  Refusal : (command : Command) (refusal : RealmFault) → TakesNoRealm command old new refusal → WritesFront old.written new.written (refusal_line refusal) → IsPutFailed old new (Some command)
   Line : (given : Option RealmParts) → TakesRealm commands.Check old new given → WritesFront old.written new.written (check_line (or_builtin given)) → IsPutFailed old new (Some commands.Check)
   Replies : (given : Option RealmParts) → TakesRealm commands.Replay old new given → IsCutOff (base_of given) old new → IsPutFailed old new (Some commands.Replay)
 
@@ -74,12 +74,12 @@ pub record IsTooLong {S R : Type 0} (command : Command) (old new : OutsideState 
 -- the realm source tells its bytes, and they are no realm for the command
 abbrev pub HasNoRealm : Command → Option (List ℕ) → Type 0
 HasNoRealm command None = ⊥
-HasNoRealm command (Some bytes) = IsErr (realm_for command bytes)
+HasNoRealm command (Some bytes) = IsErr (realm_given bytes)
 
 -- the realm source tells its bytes, and the command can go on with them
 abbrev pub HasRealm : Command → Option (List ℕ) → Type 0
 HasRealm command None = ⊥
-HasRealm command (Some bytes) = IsOk (realm_for command bytes)
+HasRealm command (Some bytes) = IsOk (realm_given bytes)
 
 -- the script tells its bytes, and they are fewer than 2^32
 abbrev pub IsShort : Option (List ℕ) → Type 0

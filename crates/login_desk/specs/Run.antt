@@ -5,14 +5,14 @@ use Rattle.login_base.specs.Outside.{before_known, after_known, IsAtEnd, Rose}
 use Rattle.realm_data.specs.declared.realm_parts.RealmParts.{RealmParts}
 use Rattle.login_desk.specs.declared.command.Command.{Command}
 use Rattle.login_desk.specs.declared.command.Command.TheVariants as commands
-use Rattle.login_desk.specs.declared.realm_given.NoRealm.{NoRealm}
+use Rattle.realm_fields.specs.declared.fault.RealmFault.{RealmFault}
 use Rattle.login_desk.specs.declared.status.Outcome.{Outcome}
 use Rattle.login_desk.specs.declared.status.Outcome.TheVariants as outcomes
 use Rattle.realm_check.specs.Check.{check_line}
 use Rattle.login_desk.specs.Outcome.{IsAnswered, IsStopped, IsOverlong, IsStarved, IsCutOff, read_line, script_line}
 use Rattle.login_desk.specs.Outside.{OutsideState, IsUnread}
 use Rattle.script_play.specs.Base.{or_builtin, base_of}
-use Rattle.login_desk.specs.RealmGiven.{realm_for, refusal_line}
+use Rattle.login_desk.specs.RealmGiven.{realm_given, refusal_line}
 use Rattle.login_desk.specs.Turn.{WritesFront}
 use Rattle.login_desk.specs.Whole.{whole_limit}
 
@@ -41,14 +41,14 @@ pub record TakesRealm {S R : Type 0} (command : Command) (old new : OutsideState
   pub bytes : List ℕ
   pub taken : old.realm.left ≡ before_known bytes new.realm.left
   pub end : IsAtEnd new.realm.left
-  pub meant : realm_for command bytes ≡ Ok given
+  pub meant : realm_given bytes ≡ Ok given
 
 -- the realm source was read to its end, or more bytes were taken than a realm may have; they are no realm for the command
-pub record TakesNoRealm {S R : Type 0} (command : Command) (old new : OutsideState S R) (refusal : NoRealm) : Type 0 where
+pub record TakesNoRealm {S R : Type 0} (command : Command) (old new : OutsideState S R) (refusal : RealmFault) : Type 0 where
   pub bytes : List ℕ
   pub taken : old.realm.left ≡ before_known bytes new.realm.left
   pub whole : IsAtEnd new.realm.left ⊎ (whole_limit < length bytes)
-  pub meant : realm_for command bytes ≡ Err refusal
+  pub meant : realm_given bytes ≡ Err refusal
 
 -- a read of the realm source failed
 pub record MeetsRealmFault {S R : Type 0} (old new : OutsideState S R) : Type 0 where
@@ -78,14 +78,14 @@ WorkMeans commands.Check given old new status = CheckMeans (or_builtin given) ol
 
 -- what a command does with the bytes of a realm source: they are no realm for it, or it goes on
 pub data BytesMean {S R : Type 0} (command : Command) (bytes : List ℕ) (old new : OutsideState S R) (status : ℕ) : Type 0 where
-  Denied : new.script ≡ old.script → (refusal : NoRealm) → realm_for command bytes ≡ Err refusal → LineMeans (refusal_line refusal) 3 old new status → BytesMean command bytes old new status
+  Denied : new.script ≡ old.script → (refusal : RealmFault) → realm_given bytes ≡ Err refusal → LineMeans (refusal_line refusal) 3 old new status → BytesMean command bytes old new status
   Unmet : new.script ≡ old.script → status ≡ 7 → new.written ≡ old.written → BytesMean command bytes old new status
-  Met : (given : Option RealmParts) → realm_for command bytes ≡ Ok given → WorkMeans command given old new status → BytesMean command bytes old new status
+  Met : (given : Option RealmParts) → realm_given bytes ≡ Ok given → WorkMeans command given old new status → BytesMean command bytes old new status
 
 -- a command that has the option of a realm: it reads the realm source first
 pub data CommandMeans {S R : Type 0} (command : Command) (old new : OutsideState S R) (status : ℕ) : Type 0 where
   Faulty : new.script ≡ old.script → MeetsRealmFault old new → LineMeans read_line 4 old new status → CommandMeans command old new status
-  Refused : new.script ≡ old.script → (refusal : NoRealm) → TakesNoRealm command old new refusal → LineMeans (refusal_line refusal) 3 old new status → CommandMeans command old new status
+  Refused : new.script ≡ old.script → (refusal : RealmFault) → TakesNoRealm command old new refusal → LineMeans (refusal_line refusal) 3 old new status → CommandMeans command old new status
   Unmade : new.script ≡ old.script → status ≡ 7 → new.written ≡ old.written → CommandMeans command old new status
   Goes : (given : Option RealmParts) → TakesRealm command old new given → WorkMeans command given old new status → CommandMeans command old new status
 

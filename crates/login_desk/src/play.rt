@@ -1,7 +1,6 @@
 ghost use Rattle.std.specs.Prelude.{◌≡◌, ◌<◌, ◌≤◌, ◌+◌, ◌^◌, []};
 ghost use Rattle.hall_answers.specs.HasSerials.{HasSerials};
 ghost use Rattle.login_base.specs.Outside.{Rose, counted};
-ghost use Rattle.login_hall.specs.Start.{IsPlayable};
 ghost use Rattle.login_desk.specs.Outcome.{PlayEnds, end_of};
 ghost use Rattle.script_play.specs.Base.{base_of};
 
@@ -84,7 +83,6 @@ pub fn play_script<L: Ledger, S: Source, R: Source, W: Sink>(
     outside: &mut Outside<S, R, W>,
     steps: &mut Steps<L>,
 ) -> End
-    requires playable { IsPlayable given }
     ensures play { PlayEnds (base_of given) outside.old outside.new result }
     ensures end { result ≡ End.Done → outside.new.script.ends ≡ counted outside.old.script.ends }
     ensures read_cause { result ≡ End.ReadFailed → Rose outside.old.script.faults outside.new.script.faults }

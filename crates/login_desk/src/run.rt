@@ -1,6 +1,5 @@
 ghost use Rattle.std.specs.Prelude.{◌≡◌, ◌⊎◌, ◌≢◌, IsTrue, IfOk, None, Some, IsSomeAnd};
 ghost use Rattle.login_base.specs.Outside.{Rose, counted, after_known};
-ghost use Rattle.login_hall.specs.Start.{IsPlayable};
 ghost use Rattle.login_desk.specs.Causes.{IsReplayed, IsChecked, IsRefused, IsUnreadable, IsPutFailed, IsOutOfMemory, IsTooLong, HasAll, HasNoRealm};
 ghost use Rattle.realm_check.specs.Check.{check_line};
 ghost use Rattle.login_desk.specs.Command.{command_of};
@@ -13,12 +12,13 @@ ghost use Rattle.login_desk.specs.Statuses.{number_of};
 use crate::command::{Command, command_of};
 use crate::outside::Outside;
 use crate::play::{End, play_script};
-use crate::realm_given::{Given, NoRealm, realm_for, refusal_line, too_long};
+use crate::realm_given::{Given, realm_given, refusal_line, too_long};
 use crate::status::{Outcome, Status};
 use crate::whole::Whole;
 use login_base::{Argv, Memory, Put, Sink, Source, Steps, discard};
 use realm_check::check_line;
 use realm_data::Realm;
+use realm_file::RealmFault;
 use std::alloc::Global;
 use std::sync::ledger::Ledger;
 
@@ -46,7 +46,6 @@ fn replay<L: Ledger, S: Source, R: Source, W: Sink>(
     outside: &mut Outside<S, R, W>,
     steps: &mut Steps<L>,
 ) -> Outcome
-    requires playable { IsPlayable given }
     ensures means { ReplayMeans (base_of given) outside.old outside.new (number_of result) }
     ensures end { result ≡ Outcome.Done → outside.new.script.ends ≡ counted outside.old.script.ends }
     ensures realm { outside.new.realm ≡ outside.old.realm }
@@ -95,7 +94,6 @@ fn work<L: Ledger, S: Source, R: Source, W: Sink>(
     outside: &mut Outside<S, R, W>,
     steps: &mut Steps<L>,
 ) -> Outcome
-    requires playable { command ≡ Command.Replay → IsPlayable given }
     ensures means { WorkMeans command given outside.old outside.new (number_of result) }
     ensures end { result ≡ Outcome.Done → command ≡ Command.Replay →
         outside.new.script.ends ≡ counted outside.old.script.ends }
@@ -110,7 +108,7 @@ fn work<L: Ledger, S: Source, R: Source, W: Sink>(
 /// Tells why the command can't go on.
 fn refuse<S: Source, R: Source, W: Sink>(
     alloc: Global,
-    refusal: NoRealm,
+    refusal: RealmFault,
     outside: &mut Outside<S, R, W>,
 ) -> Outcome
     ensures means { LineMeans (refusal_line refusal) 3 outside.old outside.new (number_of result) ⊎
@@ -138,7 +136,7 @@ fn with_bytes<L: Ledger, S: Source, R: Source, W: Sink>(
         outside.new.script.ends ≡ counted outside.old.script.ends }
     ensures realm { outside.new.realm ≡ outside.old.realm }
 {
-    match realm_for(alloc, command, bytes) {
+    match realm_given(alloc, bytes) {
         Given::Realm(given) => work(alloc, command, given, outside, steps),
         Given::Refused(refusal) => refuse(alloc, refusal, outside),
         Given::Memory => Outcome::Memory,

@@ -14,7 +14,7 @@ use Rattle.asks.specs.Solved.{SolvedAsk}
 use Rattle.asks.proofs.PasswordLemmas.{emptied_ask, emptied_plain}
 use Rattle.login_hall.specs.declared.task.Task.{Task}
 use Rattle.login_hall.specs.declared.task.Task.TheVariants as tasks
-use Rattle.admin_asks.specs.Passwords.{IsKeepable}
+use Rattle.hall_answers.specs.Passwords.{IsKeepable}
 use Rattle.login_hall.specs.Found.{task_for, finding_of, HasRounds, has_password, target_password, found, finding_for, solved_of}
 use Rattle.hall_answers.specs.Setting.{realm_now}
 

@@ -8,7 +8,10 @@ use Rattle.asks.specs.Solved.{SolvedAsk}
 use Rattle.hall_answers.specs.Setting.{Setting, setting_at}
 use Rattle.login_base.specs.declared.draws.Draws.{Draws}
 use Rattle.hall_answers.proofs.Lifts.{Lifts, nothing, Raising}
-use Rattle.tab_asks.proofs.SerialLemmas.{new_tab_lifts, page_lifts, post_lifts, logout_lifts}
+use Rattle.token_asks.proofs.SerialLemmas.{verify_lifts, reset_lifts}
+use Rattle.tab_pages.proofs.SerialLemmas.{page_lifts}
+use Rattle.root_asks.proofs.SerialLemmas.{new_tab_lifts, logout_lifts}
+use Rattle.tab_asks.proofs.SerialLemmas.{post_lifts}
 use Rattle.admin_asks.proofs.SerialLemmas.{admin_raises}
 use Rattle.login_hall.specs.Due.{due, due_ask}
 use Rattle.login_hall.specs.Legal.{Raises}
@@ -24,9 +27,9 @@ pub raises : (setting : Setting) (ask : Ask) (finding : Finding) → Raises sett
 raises setting (asks.Bad at) finding = raised 0 setting.facts _ (omega arith) (nothing 0 setting.facts)
 raises setting (asks.NewTab new) finding = raised 3 setting.facts _ (omega arith) (new_tab_lifts setting new)
 raises setting (asks.Page root tab) finding = raised 1 setting.facts _ (omega arith) (page_lifts setting root tab)
-raises setting (asks.Post post) finding = raised 1 setting.facts _ (omega arith) (post_lifts setting post finding)
-raises setting (asks.Verify key) finding = raised 0 setting.facts _ (omega arith) (nothing 0 setting.facts)
-raises setting (asks.Reset key password) finding = raised 0 setting.facts _ (omega arith) (nothing 0 setting.facts)
+raises setting (asks.Post post) finding = raised 2 setting.facts _ (omega arith) (post_lifts setting post finding)
+raises setting (asks.Verify key) finding = raised 1 setting.facts _ (omega arith) (verify_lifts setting key)
+raises setting (asks.Reset key password) finding = raised 1 setting.facts _ (omega arith) (reset_lifts setting key finding)
 raises setting (asks.Logout root) finding = raised 0 setting.facts _ (omega arith) (logout_lifts setting root)
 raises setting (asks.Admin access verb) finding = raised_with_version 3 setting.facts _ (omega arith) (admin_raises setting access verb finding)
 

@@ -12,6 +12,7 @@ use Rattle.realm_data.specs.declared.realm_parts.RealmParts.{RealmParts}
 use Rattle.realm_data.specs.declared.realm_parts.RealmUser.{RealmUser}
 use Rattle.facts.specs.Accounts.{account_named}
 use Rattle.realm_data.specs.PasswordHash.{HashedPassword}
+use Rattle.realm_data.specs.declared.action.Action.{Action}
 use Rattle.realm_data.specs.RealmBuiltin.{builtin_realm}
 use Rattle.facts.specs.declared.fact.Fact.TheVariants as events
 use Rattle.facts.specs.Places.{last_of}
@@ -20,7 +21,8 @@ use Rattle.facts.specs.Serials.{last_tab_serial, last_stored_serial, tab_serial_
 use Rattle.facts.proofs.InForce.{has_realm_more, last_version_more}
 use Rattle.facts.proofs.PlacesLemmas.{last_of_append}
 use Rattle.facts.proofs.SerialLemmas.{last_tab_serial_more, last_stored_serial_more}
-use Rattle.admin_asks.specs.Account.{GivenSecrets, disabled_facts, password_facts, otp_facts, recovery_facts, count, secret_facts, account_facts, serials_of}
+use Rattle.admin_asks.specs.Account.{GivenSecrets, disabled_facts, otp_facts, recovery_facts, count, secret_facts, action_facts, account_facts, serials_of}
+use Rattle.hall_answers.specs.Passwords.{password_facts}
 use Rattle.login_hall.specs.Legal.{RaisesAtStart}
 use Rattle.login_hall.specs.Start.{IsStart, IsPut, is_mark, realm_facts, secrets_of, user_facts, new_user_facts, serial_after, users_facts, users_after, start_facts}
 
@@ -33,7 +35,7 @@ disabled_without : (user : UserId) (enabled : Bool) → list_any is_mark (disabl
 disabled_without user true = refl
 disabled_without user false = refl
 
-password_without : (user : UserId) (serial : ℕ) (password : Option HashedPassword) → list_any is_mark (password_facts user serial password) ≡ false
+password_without : (user : UserId) (serial : ℕ) (password : Option HashedPassword) → list_any is_mark (password_facts user serial password None) ≡ false
 password_without user serial None = refl
 password_without user serial (Some hash) = refl
 
@@ -47,16 +49,23 @@ recovery_without user serial (Some digests) = refl
 
 secrets_without : (user : UserId) (last : ℕ) (given : GivenSecrets) → list_any is_mark (secret_facts user last given) ≡ false
 secrets_without user last given =
-    let first = password_facts user (last + 1) given.password in
+    let first = password_facts user (last + 1) given.password None in
     let second = otp_facts user (last + count given.password + 1) given.otp in
     let third = recovery_facts user (last + count given.password + count given.otp + 1) given.recovery in
     both_without (first ++ second) third
     (both_without first second (password_without user (last + 1) given.password) (otp_without user (last + count given.password + 1) given.otp))
     (recovery_without user (last + count given.password + count given.otp + 1) given.recovery)
 
+actions_without : (user : UserId) (actions : List Action) → list_any is_mark (action_facts user actions) ≡ false
+actions_without user [] = refl
+actions_without user (action ∷ actions) = actions_without user actions
+
 user_without : (user : UserId) (given : RealmUser) → list_any is_mark (user_facts user given) ≡ false
 user_without user given =
-    both_without (disabled_facts user given.enabled) (secret_facts user user.0 (secrets_of given)) (disabled_without user given.enabled) (secrets_without user user.0 (secrets_of given))
+    let disabled = disabled_facts user given.enabled in
+    let secrets = secret_facts user user.0 (secrets_of given) in
+    both_without (disabled ++ secrets) (action_facts user given.actions)
+    (both_without disabled secrets (disabled_without user given.enabled) (secrets_without user user.0 (secrets_of given))) (actions_without user given.actions)
 
 new_user_without : (serial : ℕ) (given : RealmUser) (known : Bool) → list_any is_mark (if known then [] else user_facts (record { 0 = serial + 1 }) given) ≡ false
 new_user_without serial given true = refl
@@ -165,7 +174,7 @@ put_adds : (old : List Fact) (user : UserId) (name : List ℕ) (roles : List (Li
 put_adds old user name roles true h = adds_more old _ user.0 refl (omega (arith, h)) refl
 put_adds old user name roles false h = adds_more old _ user.0 refl (omega (arith, h)) refl
 
-password_adds : (old : List Fact) (user : UserId) (last : ℕ) (password : Option HashedPassword) → last_stored_serial old ≤ last → Adds old (password_facts user (last + 1) password) (last + count password)
+password_adds : (old : List Fact) (user : UserId) (last : ℕ) (password : Option HashedPassword) → last_stored_serial old ≤ last → Adds old (password_facts user (last + 1) password None) (last + count password)
 password_adds old user last None h = nothing_adds old (last + 0) (omega (arith, h))
 password_adds old user last (Some hash) h = adds_more old _ (last + 1) refl (omega (arith, h)) refl
 
@@ -180,7 +189,7 @@ recovery_adds old user last (Some digests) h = adds_more old _ (last + 1) refl (
 secrets_add : (old : List Fact) (user : UserId) (last : ℕ) (given : GivenSecrets) → last_stored_serial old ≤ last
     → Adds old (secret_facts user last given) (last + count given.password + count given.otp + count given.recovery)
 secrets_add old user last given h =
-    let first = password_facts user (last + 1) given.password in
+    let first = password_facts user (last + 1) given.password None in
     let second = otp_facts user (last + count given.password + 1) given.otp in
     let third = recovery_facts user (last + count given.password + count given.otp + 1) given.recovery in
     let one = password_adds old user last given.password h in
@@ -194,20 +203,42 @@ secrets_add old user last given h =
 same_top : (old more : List Fact) (top other : ℕ) → top ≡ other → Adds old more top → Adds old more other
 same_top old more top other e adds = subst (λ (n : ℕ). Adds old more n) e adds
 
-account_adds : (old : List Fact) (serial : ℕ) (name : List ℕ) (roles : List (List ℕ)) (enabled : Bool) (given : GivenSecrets) → last_stored_serial old ≤ serial
-    → Adds old (account_facts (record { 0 = serial + 1 }) name roles enabled given) (serial + serials_of given)
-account_adds old serial name roles enabled given h =
+-- actions take no serial
+tabs_require : (n : ℕ) (user : UserId) (actions : List Action) → fold tab_serial_after n (action_facts user actions) ≡ n
+tabs_require n user [] = refl
+tabs_require n user (action ∷ actions) = tabs_require n user actions
+
+stored_require : (n : ℕ) (user : UserId) (actions : List Action) → fold stored_serial_after n (action_facts user actions) ≡ n
+stored_require n user [] = refl
+stored_require n user (action ∷ actions) = stored_require n user actions
+
+version_requires : (n : ℕ) (user : UserId) (actions : List Action) → fold version_after n (action_facts user actions) ≡ n
+version_requires n user [] = refl
+version_requires n user (action ∷ actions) = version_requires n user actions
+
+actions_add : (old : List Fact) (user : UserId) (actions : List Action) (top : ℕ) → last_stored_serial old ≤ top → Adds old (action_facts user actions) top
+actions_add old user actions top h =
+    let s = stored_require (last_stored_serial old) user actions in
+    adds_more old (action_facts user actions) top (tabs_require (last_tab_serial old) user actions) (omega (arith, h, s)) (version_requires (last_version old) user actions)
+
+account_adds : (old : List Fact) (serial : ℕ) (name : List ℕ) (roles : List (List ℕ)) (enabled : Bool) (given : GivenSecrets) (actions : List Action) → last_stored_serial old ≤ serial
+    → Adds old (account_facts (record { 0 = serial + 1 }) name roles enabled given actions) (serial + serials_of given)
+account_adds old serial name roles enabled given actions h =
     let user : UserId = record { 0 = serial + 1 } in
     let put = events.UserPut user name roles ∷ disabled_facts user enabled in
+    let secrets = secret_facts user (serial + 1) given in
     let top = serial + 1 + count given.password + count given.otp + count given.recovery in
     let front : Adds old put (serial + 1) = put_adds old user name roles enabled (omega (arith, h)) in
-    let back : Adds (old ++ put) (secret_facts user (serial + 1) given) top = secrets_add (old ++ put) user (serial + 1) given front.stored in
-    same_top old (account_facts user name roles enabled given) top (serial + serials_of given) (omega arith) (both_add old put (secret_facts user (serial + 1) given) (serial + 1) top front back)
+    let middle : Adds (old ++ put) secrets top = secrets_add (old ++ put) user (serial + 1) given front.stored in
+    let first : Adds old (put ++ secrets) top = both_add old put secrets (serial + 1) top front middle in
+    let back : Adds (old ++ (put ++ secrets)) (action_facts user actions) top = actions_add (old ++ (put ++ secrets)) user actions top first.stored in
+    same_top old (account_facts user name roles enabled given actions) top (serial + serials_of given) (omega arith)
+    (both_add old (put ++ secrets) (action_facts user actions) top top first back)
 
 user_adds : (base old : List Fact) (serial : ℕ) (given : RealmUser) (known : Bool) → last_stored_serial old ≤ serial
     → Adds old (if known then [] else user_facts (record { 0 = serial + 1 }) given) (if known then serial else serial + serials_of (secrets_of given))
 user_adds base old serial given true h = nothing_adds old serial h
-user_adds base old serial given false h = account_adds old serial given.name given.roles given.enabled (secrets_of given) h
+user_adds base old serial given false h = account_adds old serial given.name given.roles given.enabled (secrets_of given) given.actions h
 
 one_at_most : {A : Type 0} (given : Option A) → count given ≤ 1
 one_at_most None = omega arith

@@ -10,20 +10,21 @@ use Rattle.asks.specs.Solved.{SolvedAsk}
 use Rattle.hall_answers.specs.declared.answer.Answer.{Answer}
 use Rattle.hall_answers.specs.Answers.{only}
 use Rattle.hall_answers.specs.Setting.{Setting, setting_at}
-use Rattle.tab_asks.specs.Logout.{due_logout}
-use Rattle.tab_asks.specs.NewTab.{due_new_tab}
-use Rattle.tab_asks.specs.Pages.{due_page}
+use Rattle.token_asks.specs.Follow.{due_verify, due_reset}
+use Rattle.tab_pages.specs.Pages.{due_page}
+use Rattle.root_asks.specs.Logout.{due_logout}
+use Rattle.root_asks.specs.NewTab.{due_new_tab}
 use Rattle.tab_asks.specs.Post.{due_post}
-use Rattle.admin_asks.specs.Admin.{due_admin, not_built}
+use Rattle.admin_asks.specs.Admin.{due_admin}
 
--- by cases on the ask; an ask that isn't built yet is malformed at its verb
+-- by cases on the ask
 abbrev pub due_ask : Setting → Ask → Finding → Answer
 due_ask setting (asks.Bad at) finding = only None (whats.BadForm at)
 due_ask setting (asks.NewTab new) finding = due_new_tab setting new
 due_ask setting (asks.Page root tab) finding = due_page setting root tab
 due_ask setting (asks.Post post) finding = due_post setting post finding
-due_ask setting (asks.Verify key) finding = not_built setting
-due_ask setting (asks.Reset key password) finding = not_built setting
+due_ask setting (asks.Verify key) finding = due_verify setting key
+due_ask setting (asks.Reset key password) finding = due_reset setting key finding
 due_ask setting (asks.Logout root) finding = due_logout setting root
 due_ask setting (asks.Admin access verb) finding = due_admin setting access verb finding
 

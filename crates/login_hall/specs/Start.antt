@@ -3,7 +3,6 @@ use Rattle.std.specs.Prelude.{◌≡◌, ◌≤◌, length, ℕ, ◌+◌, Bool, 
 use Rattle.login_base.specs.declared.id.UserId.{UserId}
 use Rattle.realm_data.specs.declared.realm_parts.RealmParts.{RealmParts}
 use Rattle.realm_data.specs.declared.realm_parts.RealmUser.{RealmUser}
-use Rattle.realm_data.specs.RealmBuilt.{is_built}
 use Rattle.realm_data.specs.RealmBuiltin.{builtin_realm}
 use Rattle.facts.specs.declared.fact.Fact.{Fact}
 use Rattle.facts.specs.declared.fact.Fact.TheVariants as events
@@ -37,9 +36,9 @@ realm_facts last (Some realm) = events.RealmPut (last + 1) realm ∷ []
 abbrev pub secrets_of : RealmUser → GivenSecrets
 secrets_of given = record { password = given.password; otp = given.otp; recovery = given.recovery }
 
--- a user of the realm is added; actions aren't built yet
+-- a user of the realm is added
 abbrev pub user_facts : UserId → RealmUser → List Fact
-user_facts user given = account_facts user given.name given.roles given.enabled (secrets_of given)
+user_facts user given = account_facts user given.name given.roles given.enabled (secrets_of given) given.actions
 
 abbrev pub new_user_facts : List Fact → ℕ → RealmUser → List Fact
 new_user_facts base serial given = if is_some (account_named given.name base) then [] else user_facts (record { 0 = serial + 1 }) given
@@ -70,11 +69,6 @@ pub record IsStart (base : List Fact) (realm : Option RealmParts) (added : List 
   pub is_put : IsPut base realm put
   pub facts : added ≡ start_facts base put
   pub few : length (users_after put (current_realm base)) ≤ 10000
-
--- a realm that is handed in can be played
-abbrev pub IsPlayable : Option RealmParts → Type 0
-IsPlayable None = Unit {0}
-IsPlayable (Some realm) = is_built realm ≡ true
 
 -- the fact is a mark
 abbrev pub is_mark : Fact → Bool

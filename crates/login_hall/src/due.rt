@@ -6,11 +6,14 @@ ghost use Rattle.login_hall.specs.Due.{due_ask};
 
 use admin_asks::due_admin;
 use facts::{Ask, Solved, What};
-use hall_answers::{Answer, Refusal, Setting, refused};
+use hall_answers::{Answer, Setting};
 use login_base::{Duplicate, Memory, Name, Steps};
+use root_asks::{due_logout, due_new_tab};
 use std::alloc::Global;
 use std::sync::ledger::Ledger;
-use tab_asks::{due_logout, due_new_tab, due_page, due_post};
+use tab_asks::due_post;
+use tab_pages::due_page;
+use token_asks::{due_reset, due_verify};
 
 /// What a malformed ask is due.
 fn due_bad(alloc: Global, at: &Name) -> Result<Answer, Memory>
@@ -37,14 +40,7 @@ pub(crate) fn due<L: Ledger>(
         Ask::Post(post) => due_post(setting, post, finding, steps),
         Ask::Admin { access, verb } => due_admin(setting, access, verb, finding, steps),
         Ask::Logout { root } => due_logout(setting, root, steps),
-        Ask::Verify { .. } | Ask::Reset { .. } => {
-            refused(
-                setting.alloc,
-                &setting.facts(),
-                None,
-                Refusal::NotBuilt,
-                steps,
-            )
-        }
+        Ask::Verify { key } => due_verify(setting, *key, steps),
+        Ask::Reset { key, .. } => due_reset(setting, *key, finding, steps),
     }
 }

@@ -9,7 +9,7 @@ ghost use Rattle.login_hall.specs.Growth.{last_moment};
 ghost use Rattle.login_hall.specs.HallState.{facts_of, IsUnchanged};
 ghost use Rattle.login_hall.specs.Legal.{Follows, entry_at, entry_due, Raises, RaisesAtStart};
 ghost use Rattle.hall_answers.specs.HasSerials.{HasSerials};
-ghost use Rattle.login_hall.specs.Start.{IsStart, IsPlayable};
+ghost use Rattle.login_hall.specs.Start.{IsStart};
 
 use crate::begun::Begun;
 use crate::due::due;
@@ -167,7 +167,6 @@ impl Hall {
     /// built-in realm where none is, and then the users of the realm whose names have no account.
     pub fn start(&mut self, realm: Option<Realm>) -> Result<Start, Memory>
         requires fresh { self.old.journal ≡ [] }
-        requires playable { IsPlayable realm }
         requires stored { last_stored_serial self.old.base ≤ 2 ^ 63 - 2 ^ 20 }
         requires version { last_version self.old.base ≤ 2 ^ 63 - 2 ^ 20 }
         ensures start { IfOk result (λ start. IsStart self.old.base realm start) }

@@ -5,8 +5,8 @@ use crate::sample_hall::{ANN, Asked, is_answered_twice, is_refused_twice};
 use crate::sample_realms::PLAIN;
 use std::test::Fail;
 
-/// An unknown client is told before a root and a level that aren't there, what isn't built before a
-/// taken name, and a wrong key before both.
+/// An unknown client is told before a root and a level that aren't there, and a wrong key before a
+/// taken name.
 const FIRST: [Asked; 6] = [
     (
         PLAIN,
@@ -24,7 +24,7 @@ const FIRST: [Asked; 6] = [
         PLAIN,
         &[ANN],
         Line::Acting(None, "ann"),
-        "1 BadForm at=verb",
+        "2 AdminRefused rule=UserTaken",
     ),
     (
         PLAIN,

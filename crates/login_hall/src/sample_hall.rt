@@ -66,9 +66,6 @@ fn ended<L: Ledger>(
 fn started_hall(alloc: Global, realm: Realm) -> Result<Hall, Fail>
     ensures realm { IfOk result (λ hall. has_realm (facts_of hall) ≡ true) }
 {
-    if !realm.built() {
-        return Err("the realm can't be played".into());
-    }
     let mut hall = Hall::make(alloc)?;
     let start = hall.start(Some(realm))?;
     hall.started(start);

@@ -108,6 +108,7 @@ fn add_new_user<L: Ledger>(
         &given.roles,
         given.enabled,
         &secrets,
+        given.actions.as_slice(),
     )?;
     Ok(serial + secrets.serials())
 }

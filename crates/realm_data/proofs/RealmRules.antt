@@ -92,6 +92,15 @@ most_digits r h = (otp_rule r h).0.1
 pub widest_window : (r : RealmParts) → is_realm r ≡ true → r.otp.window ≤ 2
 widest_window r h = (otp_rule r h).1
 
+codes_within : (r : RealmParts) → is_realm r ≡ true → IsWithin 1 16 r.recovery_count
+codes_within r h = within 1 16 r.recovery_count (numbers_kept r h).recovery_count
+
+pub least_codes : (r : RealmParts) → is_realm r ≡ true → 1 ≤ r.recovery_count
+least_codes r h = (codes_within r h).0
+
+pub most_codes : (r : RealmParts) → is_realm r ≡ true → r.recovery_count ≤ 16
+most_codes r h = (codes_within r h).1
+
 pub few_users : (r : RealmParts) → is_realm r ≡ true → length r.users ≤ 10000
 few_users r h = leb-true (length r.users) 10000 (and_parts (nat_le (length r.users) 10000) _ (rules_kept r h).users).0
 

@@ -1,6 +1,5 @@
 pub mod Padding
 pub mod PasswordHash
 pub mod Realm
-pub mod RealmBuilt
 pub mod RealmBuiltin
 pub mod Secrets

@@ -6,7 +6,6 @@ mod action;
 mod otp_secret;
 mod password_hash;
 mod realm;
-mod realm_built;
 mod realm_builtin;
 mod realm_parts;
 mod realm_rules;

@@ -3,10 +3,8 @@ ghost use Rattle.std.specs.Prelude.{Some, None, if◌then◌else◌};
 ghost use Rattle.lockout.specs.Policy.{IsPolicy};
 ghost use Rattle.realm_data.specs.PasswordHash.{is_iterations};
 ghost use Rattle.realm_data.specs.Realm.{is_realm};
-ghost use Rattle.realm_data.specs.RealmBuilt.{is_built};
 ghost use Rattle.realm_data.specs.RealmBuiltin.{builtin_realm};
 
-use crate::realm_built::is_built;
 use crate::realm_builtin::builtin_parts;
 use crate::realm_parts::{OtpRule, RealmParts, RealmUser};
 use crate::realm_rules::is_realm;
@@ -71,13 +69,6 @@ impl Realm {
         })
     }
 
-    /// Whether the service can play the realm so far.
-    pub fn built(&self) -> bool
-        ensures value { result ≡ is_built self.now }
-    {
-        is_built(self.parts.get())
-    }
-
     /// Whether the realms are equal. The order of lists counts.
     pub fn is_same(&self, other: &Realm) -> bool
         ensures value { IsTrue result ↔ (self.now ≡ other.now) }
@@ -120,6 +111,16 @@ impl Realm {
         ensures window { result.window ≤ 2 }
     {
         self.parts().otp
+    }
+
+    /// How many recovery codes a user is given.
+    #[tactic(auto, using(crate::proofs::RealmRules::least_codes, crate::proofs::RealmRules::most_codes))]
+    pub fn recovery_count(&self) -> u32
+        ensures value { result ≡ self.now.recovery_count }
+        ensures least { 1 ≤ result }
+        ensures most { result ≤ 16 }
+    {
+        self.parts().recovery_count
     }
 
     /// The users whom the realm comes with.

@@ -419,28 +419,6 @@ fn ann(alloc: Global) -> Result<RealmUser, Memory> {
     Ok(ann)
 }
 
-/// Whether a realm with this user is built.
-fn is_built_with(alloc: Global, user: RealmUser) -> Result<bool, Memory> {
-    let mut parts = parts(alloc, flow_of(alloc, Kind::Form)?)?;
-    parts.users.push(user)?;
-    Ok(some(Realm::new(alloc, parts)?)?.built())
-}
-
-#[test]
-fn only_plain_users_are_built(rt: HostRuntime) -> Result<(), Fail> {
-    let alloc = rt.alloc();
-    let with_codes = RealmUser {
-        otp: secret(alloc, 10)?,
-        recovery: codes(alloc, 1)?,
-        ..ann(alloc)?
-    };
-    assert!(rt; is_built_with(alloc, with_codes)?);
-    let mut with_action = ann(alloc)?;
-    with_action.actions.push(Action::Terms)?;
-    assert!(rt; !is_built_with(alloc, with_action)?);
-    Ok(())
-}
-
 /// A realm with each part, in which a user has this key.
 fn full(alloc: Global, key: usize, admin_key: [u8; 32]) -> Result<Realm, Memory> {
     let mut user = ann(alloc)?;
@@ -467,7 +445,8 @@ fn a_copy_is_the_same_and_a_log_shows_no_secret(rt: HostRuntime) -> Result<(), F
         assert_eq!(rt; shown(alloc, &realm)?, shown(alloc, &other)?);
     }
     let builtin = Realm::builtin(alloc)?;
-    assert!(rt; builtin.built() && !builtin.is_same(&realm));
+    assert!(rt; !builtin.is_same(&realm));
+    assert_eq!(rt; builtin.recovery_count(), 8);
     assert_eq!(rt; builtin.tab_life(), 1_800_000);
     Ok(())
 }

@@ -31,7 +31,6 @@ rule_words rules.AccountDisabled = codes "AccountDisabled"
 rule_words rules.TooManyTokens = codes "TooManyTokens"
 rule_words rules.NoSuchSession = codes "NoSuchSession"
 rule_words rules.RealmRefused = codes "RealmRefused"
-rule_words rules.NotYet = codes "NotYet"
 
 abbrev pub kind_words : Kind → List ℕ
 kind_words kinds.Allow = codes "allow"

@@ -19,7 +19,7 @@ const ID: Id = Id {
 /// The text of `ID`.
 const SPELLED: &str = "0000000000000007.000000000000000a000000000000000b";
 
-const RULES: [(Rule, &str); 10] = [
+const RULES: [(Rule, &str); 9] = [
     (Rule::WrongKey, "WrongKey"),
     (Rule::UserTaken, "UserTaken"),
     (Rule::TooManyUsers, "TooManyUsers"),
@@ -29,7 +29,6 @@ const RULES: [(Rule, &str); 10] = [
     (Rule::TooManyTokens, "TooManyTokens"),
     (Rule::NoSuchSession, "NoSuchSession"),
     (Rule::RealmRefused, "RealmRefused"),
-    (Rule::NotYet, "NotYet"),
 ];
 
 const KINDS: [(Kind, &str); 8] = [

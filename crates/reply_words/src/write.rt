@@ -23,7 +23,6 @@ fn rule_words(rule: Rule) -> &'static [u8]
         Rule::TooManyTokens => b"TooManyTokens",
         Rule::NoSuchSession => b"NoSuchSession",
         Rule::RealmRefused => b"RealmRefused",
-        Rule::NotYet => b"NotYet",
     }
 }
 

@@ -1,4 +1,3 @@
-pub mod Counting
 pub mod LevelLemmas
 pub mod NamedLemmas
 pub mod OutlivedLemmas

@@ -9,7 +9,7 @@ use Rattle.facts.specs.declared.fact.Fact.{Fact}
 use Rattle.facts.specs.Roots.{opens_known, tabs_known, roots_known}
 use Rattle.root_states.specs.Carrying.{tabs_after, roots_after}
 use Rattle.root_states.specs.Count.{root_made, roots_made}
-use Rattle.root_states.proofs.Counting.{few_pass, fewer_by_length, fewer_by_count}
+use Rattle.fact_scans.proofs.Counting.{few_pass, fewer_by_length, fewer_by_count}
 use Rattle.root_states.proofs.NamedLemmas.{few_roots}
 
 -- ---- tabs

@@ -12,9 +12,10 @@ use Rattle.facts.specs.Tabs.{session_after, live_among}
 use Rattle.facts.proofs.PlacesLemmas.{fold_append}
 use Rattle.facts.proofs.TabLemmas.{lower, all_rise}
 use Rattle.root_states.specs.declared.root.RootState.{RootState}
-use Rattle.root_states.specs.Carrying.{one_more, root_after, no_root}
+use Rattle.fact_scans.specs.Capped.{one_more}
+use Rattle.root_states.specs.Carrying.{root_after, no_root}
 use Rattle.root_states.specs.Roots.{is_known, has_room}
-use Rattle.root_states.proofs.Counting.{counted_from, fewer_by_count, any_counted}
+use Rattle.fact_scans.proofs.Counting.{counted_from, fewer_by_count, any_counted}
 
 module _ (now : ℕ) (root : RootKey) where
   -- ---- facts that name no root so new

@@ -1,15 +1,12 @@
 -- What is carried from fact to fact.
-use Rattle.std.specs.Prelude.{ℕ, ◌+◌, min, Bool, None, is_some, if◌then◌else◌}
+use Rattle.std.specs.Prelude.{ℕ, None, is_some}
 use Rattle.login_base.specs.declared.id.RootKey.{RootKey}
 use Rattle.facts.specs.declared.fact.Fact.{Fact}
 use Rattle.facts.specs.Roots.{opens_known, opens_known_in}
 use Rattle.facts.specs.Tabs.{session_after}
+use Rattle.fact_scans.specs.Capped.{one_more}
 use Rattle.root_states.specs.declared.root.RootState.{RootState}
 use Rattle.root_states.specs.Count.{root_made}
-
--- one more where there is one; the count stays at the most that matters
-abbrev pub one_more : ℕ → Bool → ℕ → ℕ
-one_more most is n = if is then min (n + 1) most else n
 
 abbrev pub root_after : ℕ → RootKey → RootState → Fact → RootState
 root_after now root state fact =

@@ -1,4 +1,3 @@
-pub mod Built
 pub mod LinePlaces
 pub mod Lines
 pub mod Steps

@@ -1,14 +1,14 @@
 -- What a line does: it asks, begins an ask under a handle, or settles the ask that was begun under one.
-use Rattle.std.specs.Prelude.{ℕ, nat_le, List, Option, Some, None, option_and_then, codes, if◌then◌else◌}
+use Rattle.std.specs.Prelude.{ℕ, true, nat_le, List, Option, Some, None, option_and_then, codes, if◌then◌else◌}
 use Rattle.std.specs.Str.{bytes_eq}
 use Rattle.asks.specs.declared.ask.Ask.{Ask}
 use Rattle.asks.specs.declared.ask.Ask.TheVariants as asks
 use Rattle.ask_pairs.specs.declared.pairs.Pair.{Pair}
+use Rattle.ask_pairs.specs.Asks.{ask_of_pairs}
 use Rattle.ask_pairs.specs.Pairs.{value_of}
 use Rattle.decimal_text.specs.Numbers.{number}
 use Rattle.script_lines.specs.declared.step.Step.{Step}
 use Rattle.script_lines.specs.declared.step.Step.TheVariants as steps
-use Rattle.script_lines.specs.Built.{verb_ask}
 
 -- a handle is a number from 1 to 64
 abbrev pub handle_from : Option ℕ → Option ℕ
@@ -17,6 +17,10 @@ handle_from None = None
 
 abbrev pub handle_given : List Pair → Option ℕ
 handle_given pairs = handle_from (option_and_then (number 64) (value_of (codes "h") pairs))
+
+-- the ask of a verb and its pairs, by a local administrator where it is one of an administrator
+abbrev pub verb_ask : List ℕ → List Pair → Ask
+verb_ask verb pairs = ask_of_pairs verb pairs true
 
 -- the ask of the verb that the pairs name, and of the same pairs: `begin` and `settle` are no verbs of an ask
 abbrev pub named_ask : Option (List ℕ) → List Pair → Ask

@@ -1,13 +1,11 @@
-//! What the lines of a script ask: the head of a line, its verb, and what its pairs ask, as far as it
-//! is built. It knows neither what an ask is answered, nor which asks are begun, nor where lines come
-//! from.
+//! What the lines of a script ask: the head of a line, its verb, and what its pairs ask. It knows
+//! neither what an ask is answered, nor which asks are begun, nor where lines come from.
 //!
 //! - `lines`: a line, its moment, its draw number and its verb
 //! - `step`: whether a line asks, begins an ask or settles one
-//! - `built`: which asks are built; `line_place`: where a line is malformed besides
+//! - `line_place`: where a line is malformed, besides its pairs
 #![tactic(auto)]
 
-mod built;
 mod line_place;
 mod lines;
 mod step;

@@ -3,11 +3,10 @@ ghost use Rattle.asks.specs.declared.ask.Ask.TheVariants as asks;
 ghost use Rattle.ask_pairs.specs.Pairs.{value_of};
 ghost use Rattle.script_lines.specs.declared.step.Step.TheVariants as steps;
 ghost use Rattle.script_lines.specs.LinePlaces.{line_place_text};
-ghost use Rattle.script_lines.specs.Steps.{handle_given, named_ask, begin, settle, verb_step};
+ghost use Rattle.script_lines.specs.Steps.{handle_given, verb_ask, named_ask, begin, settle, verb_step};
 
-use crate::built::verb_ask;
 use crate::line_place::{LinePlace, bad_line};
-use ask_pairs::{Pair, value_of};
+use ask_pairs::{Pair, ask_of, value_of};
 use asks::Ask;
 use decimal_text::number;
 use login_base::Memory;
@@ -38,6 +37,13 @@ fn handle_given(pairs: &[Pair]) -> Option<u64>
         },
         None => None,
     }
+}
+
+/// The ask of a verb and its pairs. Whoever runs a script is a local administrator.
+fn verb_ask(alloc: Global, verb: &[u8], pairs: &[Pair]) -> Result<Ask, Memory>
+    ensures { IfOk result (λ ask. ask ≡ verb_ask verb.now pairs.now) }
+{
+    ask_of(alloc, verb, pairs, true)
 }
 
 /// The ask of the verb that the pairs name, and of the same pairs.

@@ -1,7 +1,6 @@
 ghost use Rattle.std.specs.Prelude.{◌≡◌, ◌-◌, ◌^◌, [], false, OnOk, IfOk};
 ghost use Rattle.hall_answers.specs.HasSerials.{HasSerials};
 ghost use Rattle.login_hall.specs.Legal.{Raises};
-ghost use Rattle.login_hall.specs.Start.{IsPlayable};
 ghost use Rattle.script_lines.specs.Lines.{is_skipped};
 ghost use Rattle.script_play.specs.Base.{base_of};
 ghost use Rattle.script_play.specs.Play.{facts_in, is_bad, bad_handle, begun_text, after, line_brings};
@@ -80,7 +79,6 @@ impl Player {
 
     /// A player whose hall has started with the given realm, or with the built-in one.
     pub fn start(alloc: Global, given: Option<Realm>) -> Result<Player, Memory>
-        requires playable { IsPlayable given }
         ensures base { IfOk result (λ player. player.base ≡ base_of given) }
         ensures journal { IfOk result (λ player. player.journal ≡ []) }
         ensures begun { IfOk result (λ player. player.begun ≡ []) }

@@ -1,3 +1,2 @@
 pub mod CodeLemmas
-pub mod PlaceLemmas
 pub mod SerialLemmas

@@ -48,7 +48,7 @@ concerned named who = option_or named who
 abbrev pub is_need : Need → List ℕ → Kind → Bool
 is_need need execution kind = bytes_eq need.id execution && same_kind need.kind kind
 
--- it is a form of this execution: a value is one of a one-time code and of a recovery code; actions are asked nowhere yet
+-- it is a form of this execution: a value is one of a one-time code and of a recovery code; an action isn't one
 abbrev pub is_of : Need → Form → Bool
 is_of need (forms.Username execution name) = is_need need execution kinds.Username
 is_of need (forms.Password execution password) = is_need need execution kinds.Password

@@ -1,7 +1,4 @@
 pub mod Codes
+pub mod Deeds
 pub mod Forms
-pub mod Logout
-pub mod NewTab
-pub mod Pages
 pub mod Post
-pub mod Visit

@@ -1,13 +1,15 @@
 //! What the forms of a post are: whom each names, whose password it gives, and which execution it
-//! answers.
+//! answers or which action it does.
 ghost use Rattle.std.specs.Prelude.{◌≡◌};
 ghost use Rattle.tab_asks.specs.Forms.{named_by, target_of, concerned, is_need, is_of};
+ghost use Rattle.tab_asks.specs.Deeds.{does, does_asked};
 
 use fact_scans::account_named;
-use facts::{Facts, Form, Need};
+use facts::{Action, Facts, Form, Need, Page};
 use flow_tree::Kind;
 use login_base::{Name, Steps, UserId};
 use std::sync::ledger::Ledger;
+use tab_pages::is_shown;
 
 /// The user whom a form names.
 pub fn named_by<L: Ledger>(facts: &Facts<'_>, form: &Form, steps: &mut Steps<L>) -> Option<UserId>
@@ -74,5 +76,28 @@ pub(crate) fn is_of(need: &Need, form: &Form) -> bool
         | Form::ConfigureOtp { .. }
         | Form::RecoveryCodes
         | Form::VerifyEmail => false,
+    }
+}
+
+/// Whether a form does this action. None verifies an e-mail address: a token alone does.
+fn does(form: &Form, action: Action) -> bool
+    ensures { result ≡ does form.now action }
+{
+    match action {
+        Action::Terms => matches!(form, Form::Terms),
+        Action::VerifyEmail => false,
+        Action::UpdatePassword => matches!(form, Form::UpdatePassword { .. }),
+        Action::ConfigureOtp => matches!(form, Form::ConfigureOtp { .. }),
+        Action::RecoveryCodes => matches!(form, Form::RecoveryCodes),
+    }
+}
+
+/// Whether a form does the action that is asked, and that the page shown last asks.
+pub(crate) fn does_asked(action: Option<Action>, page: &Option<Page>, form: &Form) -> bool
+    ensures { result ≡ does_asked action page.now form.now }
+{
+    match action {
+        Some(action) => does(form, action) && is_shown(page, action),
+        None => false,
     }
 }

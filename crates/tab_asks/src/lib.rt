@@ -1,22 +1,15 @@
-//! What the asks of browsers are due: an open, a page, a post, a logout. Each refusal is a check of its own,
-//! and the checks stand in their order.
+//! What a post is due: what may refuse it, what its check comes to, and what it adds where it is
+//! accepted. The checks stand in their order.
 #![tactic(auto)]
 
 mod check;
+mod checking;
 mod codes;
+mod deeds;
 mod form;
-mod level;
-mod logout;
-mod new_tab;
-mod pages;
+mod gates;
 mod passing;
-mod place;
 mod post;
-mod roots;
-mod visit;
 
 pub use form::{named_by, target_of};
-pub use logout::due_logout;
-pub use new_tab::due_new_tab;
-pub use pages::due_page;
 pub use post::due_post;

@@ -1,6 +1,6 @@
 use Rattle.std.proofs.Common.{arith}
 use Rattle.root_states.proofs.RoomLemmas.{short_room, few_room}
-use Rattle.root_states.proofs.Counting.{short_length}
+use Rattle.fact_scans.proofs.Counting.{short_length}
 use Rattle.root_states.proofs.count.has_few_roots.Goals as goal
 
 pub returns-then-saturating_add-lt-MOST_ROOTS : goal.returns-then-saturating_add-lt-MOST_ROOTS

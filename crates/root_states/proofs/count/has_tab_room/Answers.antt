@@ -1,6 +1,6 @@
 use Rattle.std.proofs.Common.{arith}
 use Rattle.root_states.proofs.RoomLemmas.{few_tabs, tabs_counted}
-use Rattle.root_states.proofs.Counting.{short_length}
+use Rattle.fact_scans.proofs.Counting.{short_length}
 use Rattle.root_states.proofs.count.has_tab_room.Goals as goal
 
 pub returns-then-saturating_add-lt-MOST_TABS : goal.returns-then-saturating_add-lt-MOST_TABS

@@ -1,0 +1,2 @@
+pub mod Logout
+pub mod NewTab

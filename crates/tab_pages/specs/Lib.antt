@@ -1,0 +1,3 @@
+pub mod Offering
+pub mod Pages
+pub mod Visit
