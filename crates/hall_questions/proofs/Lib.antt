@@ -1,0 +1,14 @@
+pub mod AdminsAlike
+pub mod AsksAlike
+pub mod EvidenceAlike
+pub mod FoundAlike
+pub mod GrowingAnswers
+pub mod GrowingEvidence
+pub mod GrowingSessions
+pub mod OpensAlike
+pub mod PagesAlike
+pub mod PostsAlike
+pub mod ProgressAlike
+pub mod RootsAlike
+pub mod Shared
+pub mod TokensAlike
