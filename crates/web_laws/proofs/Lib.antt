@@ -1,5 +1,10 @@
 mod CookieLemmas
+mod DueLemmas
 mod FrontLemmas
+mod MarkupLemmas
+mod OfferLemmas
 mod PairLemmas
+mod PlainLemmas
 mod PostLemmas
 mod ReadingLemmas
+mod WordLemmas

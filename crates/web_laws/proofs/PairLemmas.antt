@@ -1,13 +1,11 @@
 -- Pairs that are encoded and read again.
-use Rattle.std.proofs.Common.{◌≡◌, ℕ, zero, suc, ◌+◌, ◌/◌, ◌%◌, ◌*◌, ◌^◌, ◌<◌, ◌≤◌, Bool, true, false, List, [], ◌∷◌, ◌++◌, length, get_or, refl, sym, ap, ◌∙◌, arith}
+use Rattle.std.proofs.Common.{◌≡◌, ℕ, zero, suc, ◌/◌, ◌%◌, ◌*◌, ◌^◌, ◌<◌, List, [], ◌∷◌, ◌++◌, get_or, refl, sym, ap, ◌∙◌, arith}
 use Rattle.std.proofs.Common.{Fits, w8}
 use Rattle.std.proofs.lemmas.Grind.{get_or_default_zero}
 use Rattle.std.specs.Prelude.{All, map, IsUtf8}
-use Rattle.std.specs.List.{list_all}
 use Rattle.std.specs.Str.Lossy.{utf8_lossy}
-use Rattle.std.proofs.lemmas.Bool.{false≢true}
 use Rattle.std.proofs.lemmas.Bool.Decides.{nat_tests}
-use Rattle.std.proofs.lemmas.List.Elements.{All-nil, All-cons, All-append, All-head, All-tail}
+use Rattle.std.proofs.lemmas.List.Elements.{All-nil, All-cons, All-append}
 use Rattle.std.proofs.lemmas.Str.{utf8_lossy-IsUtf8, IsUtf8-from_ascii}
 use Rattle.std.proofs.lemmas.Str.Ascii.{IsAscii-from_all}
 use Rattle.std.proofs.lemmas.Simd.{map-map}
@@ -15,9 +13,8 @@ use Rattle.form_urlencoded.specs.Form.{raw_pairs, decode, parse, extend_pairs}
 use Rattle.form_urlencoded.proofs.FormLemmas.{IsBytePair, round_trip}
 use Rattle.login_base.specs.declared.id.Id.{Id}
 use Rattle.login_base.specs.IdText.{hex_digit, hex_text, id_bytes}
-use Rattle.login_base.specs.Names.{is_name_byte, is_name}
 use Rattle.ask_pairs.specs.declared.pairs.Pair.{Pair}
-use Rattle.ask_pairs.specs.Pairs.{pair_from, pairs_of}
+use Rattle.ask_pairs.specs.Pairs.{pairs_of}
 
 -- ---- texts that stand in a pair
 

@@ -1,12 +1,12 @@
 -- The pairs of a form that was filled in, read as a post.
-use Rattle.std.proofs.Common.{◌≡◌, ℕ, ◌+◌, ◌<◌, ◌&&◌, nat_le, subst, Bool, true, false, List, [], ◌∷◌, length, refl, sym, ap, ◌∙◌, arith}
-use Rattle.std.specs.Prelude.{Option, Some, None, Ok, IfSome, All, map, nat_lt, codes}
+use Rattle.std.proofs.Common.{◌≡◌, ℕ, ◌&&◌, nat_le, subst, Bool, true, false, List, [], ◌∷◌, length, refl, sym, arith}
+use Rattle.std.specs.Prelude.{Option, Ok, IfSome, All, map, nat_lt, codes}
 use Rattle.std.specs.List.{list_all}
 use Rattle.std.specs.Char.{to_ascii_lowercase}
 use Rattle.std.proofs.lemmas.Bool.{false≢true}
 use Rattle.std.proofs.lemmas.Bool.Decides.{nat_tests}
 use Rattle.std.proofs.lemmas.List.Elements.{All-nil, All-cons}
-use Rattle.login_base.specs.IdText.{id_bytes, id_of, IsId}
+use Rattle.login_base.specs.IdText.{id_bytes, IsId}
 use Rattle.login_base.specs.Names.{is_name, is_name_byte, is_first_byte}
 use Rattle.login_base.specs.declared.id.Code.{Code}
 use Rattle.login_base.specs.declared.id.RootKey.{RootKey}

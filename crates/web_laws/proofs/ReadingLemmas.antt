@@ -1,10 +1,9 @@
 -- What a request is read as, once and when more bytes come.
-use Rattle.std.proofs.Common.{◌≡◌, ℕ, ◌+◌, ◌-◌, ◌<◌, ◌≤◌, Bool, true, false, cond, List, [], ◌∷◌, ◌++◌, length, take, drop, Some, None, Ok, Err, refl, sym, ap, subst, ◌∙◌, arith, length-append, length-drop}
+use Rattle.std.proofs.Common.{◌≡◌, ℕ, ◌-◌, ◌≤◌, Bool, true, false, cond, List, ◌++◌, length, take, drop, Some, None, Ok, Err, refl, sym, ap, subst, ◌∙◌, arith, length-append, length-drop}
 use Rattle.std.specs.Prelude.{Option, Result, nat_lt, slice_range}
 use Rattle.std.proofs.lemmas.Bool.{false≢true}
 use Rattle.std.proofs.lemmas.Bool.Decides.{nat_tests}
 use Rattle.std.proofs.lemmas.List.{take-append-le, drop-append-le}
-use Rattle.httparse.specs.Grammar.{RequestHead, ReadsRequest}
 use Rattle.httparse.proofs.GrammarLemmas.{request_unique}
 use Rattle.web_pages.specs.declared.fault.WebFault.{WebFault}
 use Rattle.web_requests.specs.declared.front.HeadPlace.{HeadPlace}
@@ -15,7 +14,7 @@ use Rattle.web_requests.specs.declared.read.Read.TheVariants as reads
 use Rattle.web_requests.specs.declared.request.Wanted.{Wanted}
 use Rattle.web_requests.specs.Front.{head_place, field_lines}
 use Rattle.web_requests.specs.Heads.{IsHead, request_of}
-use Rattle.web_requests.specs.Reading.{wanted_by, asked, read_wanted, read_head, ReadsLines, ReadsAt, ReadsAs}
+use Rattle.web_requests.specs.Reading.{wanted_by, asked, read_wanted, read_head, ReadsLines, ReadsAt}
 use Rattle.web_laws.specs.Fronts.{is_settled}
 use Rattle.web_laws.proofs.FrontLemmas.{whole_stays, large_stays, within}
 
