@@ -125,7 +125,8 @@ pub fn add_account(
     actions: &[Action],
 ) -> Result<(), Memory>
     requires serial { user.0 < 2 ^ 64 - 4 }
-    ensures ok { OnOk result (added.new ≡ added.old ++ account_facts user name.now roles.now enabled given.now actions.now) }
+    ensures ok { OnOk result (added.new
+        ≡ added.old ++ account_facts user name.now roles.now enabled given.now actions.now) }
 {
     added.push(Fact::UserPut {
         user,
