@@ -1,10 +1,12 @@
 -- What a stable sort makes of rows is the rows in order.
-use Rattle.std.proofs.Common.{◌≡◌, ℕ, zero, suc, ◌+◌, ◌<◌, ◌≤◌, Bool, true, false, not, ◌&&◌, cond, List, [], ◌∷◌, length, map, get_or, Ordering, refl, sym, ap, subst, ◌∙◌, arith}
+use Rattle.std.proofs.Common.{◌≡◌, ℕ, zero, suc, ◌+◌, ◌<◌, ◌≤◌, Bool, true, false, not, ◌&&◌, cond, List, [], ◌∷◌, length, map, get_or, Ordering, Bor, refl, sym, ap, subst, ◌∙◌, arith}
 use Rattle.std.specs.Cmp.{IsTotalOrder, IsStrictWeakOrder}
+use Rattle.std.specs.Fn.{Mut, Called, ComparesAs, ComputesKey}
 use Rattle.std.specs.Ordering.{is_lt}
 use Rattle.std.specs.List.{filter, list_all}
-use Rattle.std.specs.List.Sorted.{IsSortedBy, IsSortedByKey, IsStableByKey, ties}
+use Rattle.std.specs.List.Sorted.{IsSortedBy, IsStableBy, IsSortedByKey, IsStableByKey, ties}
 use Rattle.std.proofs.lemmas.Bool.{and_parts, false≢true}
+use Rattle.std.proofs.lemmas.Fn.{always_returns_same}
 use Rattle.std.proofs.lemmas.List.Sorted.{ranks_by, sorted_far}
 use Rattle.std.proofs.lemmas.List.Sums.{list_all-from_AllPass}
 use Rattle.keeper_rows.specs.Keys.{insert_before}
@@ -146,7 +148,8 @@ ascends-insert {X} lt o row (e ∷ rows) up = go (lt e row) refl (ascends-insert
     go : (b : Bool) → lt e row ≡ b → (ascends lt rows ≡ true → ascends lt (insert_before (λ other. not (lt other row)) row rows) ≡ true) → ascends lt (insert_before (λ other. not (lt other row)) row (e ∷ rows)) ≡ true
     go false is later =
         let behind = list_all-weaker (λ y. not (lt y e)) (λ y. not (lt y row)) (λ y h. opposite (lt y row) (o.chain y e row (negated (lt y e) h) is)) rows parts.0 in
-        rw is (both (list_all (λ y. not (lt y row)) rows) (ascends lt (e ∷ rows)) behind up)
+        let all = both (not (lt e row)) (list_all (λ y. not (lt y row)) rows) (opposite (lt e row) is) behind in
+        rw is (both (list_all (λ y. not (lt y row)) (e ∷ rows)) (ascends lt (e ∷ rows)) all up)
     go true is later =
         let front = list_all-insert_before (λ y. not (lt y e)) (λ other. not (lt other row)) row rows (opposite (lt row e) (o.one_way e row is)) parts.0 in
         rw is (both (list_all (λ y. not (lt y e)) (insert_before (λ other. not (lt other row)) row rows)) (ascends lt (insert_before (λ other. not (lt other row)) row rows)) front (later parts.1))
@@ -188,11 +191,30 @@ ascends-sorted lt o (x ∷ xs) up =
     (ascends-sorted lt o xs (λ k d low h. let next : suc k + 1 ≡ suc (k + 1) = omega arith in subst (λ i. lt (get_or (x ∷ xs) i d) (get_or xs k d) ≡ false) next (up (suc k) d (omega arith) (omega arith))))
 
 -- what is sorted by keys, with ties as they stand, is in order
-pub sorted_in_order : {R K : Type 0} {cmp : K → K → Ordering} → IsTotalOrder cmp → (key : R → K) (rows sorted : List R) → IsSortedByKey key cmp sorted → IsStableByKey key cmp rows sorted → sorted ≡ in_order cmp key rows
+sorted_in_order : {R K : Type 0} {cmp : K → K → Ordering} → IsTotalOrder cmp → (key : R → K) (rows sorted : List R) → IsSortedByKey key cmp sorted → IsStableByKey key cmp rows sorted → sorted ≡ in_order cmp key rows
 sorted_in_order {R} {K} {cmp} total key rows sorted up stable =
     let lt = by_key cmp key in
     same_in_order lt (ranks_by total key) sorted (in_order cmp key rows) (ascends-sorted lt (ranks_by total key) sorted up) (ascends-in_order total key rows)
     (λ z. stable z ∙ sym (filter-in_order total key z rows))
+
+-- what `sort_by` leaves, where each call compares the keys
+pub in_order-from_sort_by : {R K : Type 0} {cmp : K → K → Ordering} → IsTotalOrder cmp → (key : R → K) → {F : Type 0} {g : Mut F (Bor R × (Bor R × Unit {0})) Ordering} {f : F} (rows sorted : List R)
+    → ((lt : R → R → Bool) → IsStrictWeakOrder lt → ComparesAs g lt f → IsSortedBy lt sorted)
+    → ((lt : R → R → Bool) → IsStrictWeakOrder lt → ComparesAs g lt f → IsStableBy lt rows sorted)
+    → ((a : Bor R × (Bor R × Unit {0})) (r : Ordering) (f' : F) → Called g f a r f' → (r ≡ cmp (key a.0.now) (key a.1.0.now)) × (f' ≡ f)) → sorted ≡ in_order cmp key rows
+in_order-from_sort_by {R} {K} {cmp} total key {F} {g} {f} rows sorted up stable compares =
+    let lt = by_key cmp key in
+    let always = always_returns_same g (λ a r. is_lt r ≡ lt a.0.now a.1.0.now) f (λ a r f' k. (ap is_lt (compares a r f' k).0, (compares a r f' k).1)) in
+    sorted_in_order total key rows sorted (up lt (ranks_by total key) always) (stable lt (ranks_by total key) always)
+
+-- what a sort by a key leaves, where each call gives the key
+pub in_order-from_sort_by_key : {R K : Type 0} {cmp : K → K → Ordering} → IsTotalOrder cmp → (key : R → K) → {F : Type 0} {g : Mut F (Bor R × Unit {0}) K} {f : F} (rows sorted : List R)
+    → ((key : R → K) → ComputesKey g key f → IsSortedByKey key cmp sorted)
+    → ((key : R → K) → ComputesKey g key f → IsStableByKey key cmp rows sorted)
+    → ((a : Bor R × Unit {0}) (r : K) (f' : F) → Called g f a r f' → (r ≡ key a.0.now) × (f' ≡ f)) → sorted ≡ in_order cmp key rows
+in_order-from_sort_by_key {R} {K} {cmp} total key {F} {g} {f} rows sorted up stable computes =
+    let always = always_returns_same g (λ a r. r ≡ key a.0.now) f computes in
+    sorted_in_order total key rows sorted (up key always) (stable key always)
 
 -- ---- what rows are seen as
 

@@ -51,7 +51,7 @@ pub(crate) fn by_name(alloc: Global, accounts: &[AccountRow]) -> Result<Vec<&Acc
     ensures { IfOk result (λ rows. map (λ row. row.now) rows.items ≡ in_order text_cmp (λ a. a.name) accounts.now) }
 {
     let mut rows: Vec<&AccountRow> = accounts.iter().collect(alloc)?;
-    rows.sort_by_key(|row| row.name.as_bytes())?;
+    rows.sort_by(|first, second| first.name.cmp(&second.name))?;
     Ok(rows)
 }
 
