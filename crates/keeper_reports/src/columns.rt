@@ -51,9 +51,9 @@ pub(crate) fn add_next_number(
     alloc: Global,
     out: &mut Vec<u8>,
     width: usize,
-    number: i64,
+    number: &i64,
 ) -> Result<(), Memory>
-    ensures { OnOk result (out.new.items ≡ out.old.items ++ 32 ∷ right_in width (signed_decimal number)) }
+    ensures { OnOk result (out.new.items ≡ out.old.items ++ 32 ∷ right_in width (signed_decimal number.now)) }
 {
     let text = number.to_string(alloc)?;
     add(out, b" ")?;

@@ -27,12 +27,12 @@ pub(crate) fn places_of(
 pub(crate) fn name_of<'a>(
     places: &BTreeMap<i64, usize>,
     accounts: &'a [AccountRow],
-    id: i64,
+    id: &i64,
 ) -> &'a [u8]
     requires { ArePlaces places.now accounts.now }
-    ensures { result.now ≡ name_of accounts.now id }
+    ensures { result.now ≡ name_of accounts.now id.now }
 {
-    match places.get(&id) {
+    match places.get(id) {
         Some(place) => accounts[*place].name.as_bytes(),
         None => b"",
     }

@@ -45,9 +45,9 @@ fn add_user(alloc: Global, out: &mut Vec<u8>, row: &AccountRow) -> Result<(), Me
     ensures { OnOk result (out.new.items ≡ out.old.items ++ user_line row.now) }
 {
     add_left(out, 32, row.name.as_bytes())?;
-    add_next_number(alloc, out, 8, row.id)?;
+    add_next_number(alloc, out, 8, &row.id)?;
     add_next_left(out, 3, on_or_off(row))?;
-    add_next_number(alloc, out, 6, row.count)?;
+    add_next_number(alloc, out, 6, &row.count)?;
     add_last(out, shown(row.actions.as_bytes()))
 }
 
@@ -61,8 +61,8 @@ fn add_session(
 {
     add(out, row.id.as_bytes())?;
     add_next_left(out, 32, shown(name))?;
-    add_next_number(alloc, out, 16, row.opened)?;
-    add_next_number(alloc, out, 16, row.seen)?;
+    add_next_number(alloc, out, 16, &row.opened)?;
+    add_next_number(alloc, out, 16, &row.seen)?;
     add_last(out, shown(row.levels.as_bytes()))
 }
 
@@ -77,7 +77,7 @@ fn add_token(
     add(out, row.key.as_bytes())?;
     add_next_left(out, 32, shown(name))?;
     add_next_left(out, 15, row.kind.as_bytes())?;
-    add_next_number(alloc, out, 16, row.expiry)?;
+    add_next_number(alloc, out, 16, &row.expiry)?;
     add_last(out, spent_or_not(row))
 }
 
@@ -100,7 +100,7 @@ fn sessions_text(alloc: Global, tables: &Tables) -> Result<Vec<u8>, Memory>
     let rows = by_serial(alloc, tables.sessions.as_slice())?;
     let mut out = Vec::new(alloc);
     for row in rows.iter() {
-        add_session(alloc, &mut out, name_of(&places, accounts, row.user), row)?;
+        add_session(alloc, &mut out, name_of(&places, accounts, &row.user), row)?;
     }
     Ok(out)
 }
@@ -113,7 +113,7 @@ fn tokens_text(alloc: Global, tables: &Tables) -> Result<Vec<u8>, Memory>
     let rows = by_serial(alloc, tables.tokens.as_slice())?;
     let mut out = Vec::new(alloc);
     for row in rows.iter() {
-        add_token(alloc, &mut out, name_of(&places, accounts, row.user), row)?;
+        add_token(alloc, &mut out, name_of(&places, accounts, &row.user), row)?;
     }
     Ok(out)
 }
