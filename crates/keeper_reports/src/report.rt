@@ -1,7 +1,7 @@
 ghost use Rattle.std.specs.Prelude.{◌≡◌, ◌++◌, IfOk, OnOk, map};
 ghost use Rattle.std.specs.List.{flat_map};
 ghost use Rattle.keeper_reports.specs.Names.{ArePlaces};
-ghost use Rattle.keeper_reports.specs.Reports.{is_off, on_or_off, user_line, session_line, spent_or_not, token_line, users_text, sessions_text, tokens_text, report_text};
+ghost use Rattle.keeper_reports.specs.Reports.{is_off, on_or_off, user_line, name_of, session_line, spent_or_not, token_line, users_text, sessions_text, tokens_text, report_text};
 
 use crate::columns::{add, add_last, add_left, add_next_left, add_next_number, shown};
 use crate::names::{name_of, places_of};
@@ -81,40 +81,73 @@ fn add_token(
     add_last(out, spent_or_not(row))
 }
 
+fn add_users(alloc: Global, out: &mut Vec<u8>, rows: &[&AccountRow]) -> Result<(), Memory>
+    ensures { OnOk result (out.new.items ≡ out.old.items ++ flat_map (λ row. user_line row.now) rows.now) }
+{
+    for row in rows {
+        add_user(alloc, out, row)?;
+    }
+    Ok(())
+}
+
 fn users_text(alloc: Global, tables: &Tables) -> Result<Vec<u8>, Memory>
     ensures { IfOk result (λ text. text.items ≡ users_text tables.now) }
 {
     let rows = by_name(alloc, tables.accounts.as_slice())?;
     let mut out = Vec::new(alloc);
-    for row in rows.iter() {
-        add_user(alloc, &mut out, row)?;
-    }
+    add_users(alloc, &mut out, rows.as_slice())?;
     Ok(out)
+}
+
+fn add_sessions(
+    alloc: Global,
+    out: &mut Vec<u8>,
+    tables: &Tables,
+    rows: &[&SessionRow],
+) -> Result<(), Memory>
+    ensures { OnOk result (out.new.items ≡
+        out.old.items ++ flat_map (λ row. session_line (name_of tables.now.accounts row.now.user) row.now) rows.now) }
+{
+    let accounts = tables.accounts.as_slice();
+    let places = places_of(alloc, accounts)?;
+    for row in rows {
+        add_session(alloc, out, name_of(&places, accounts, &row.user), row)?;
+    }
+    Ok(())
 }
 
 fn sessions_text(alloc: Global, tables: &Tables) -> Result<Vec<u8>, Memory>
     ensures { IfOk result (λ text. text.items ≡ sessions_text tables.now) }
 {
-    let accounts = tables.accounts.as_slice();
-    let places = places_of(alloc, accounts)?;
     let rows = by_serial(alloc, tables.sessions.as_slice())?;
     let mut out = Vec::new(alloc);
-    for row in rows.iter() {
-        add_session(alloc, &mut out, name_of(&places, accounts, &row.user), row)?;
-    }
+    add_sessions(alloc, &mut out, tables, rows.as_slice())?;
     Ok(out)
+}
+
+fn add_tokens(
+    alloc: Global,
+    out: &mut Vec<u8>,
+    tables: &Tables,
+    rows: &[&TokenRow],
+) -> Result<(), Memory>
+    ensures { OnOk result (out.new.items ≡
+        out.old.items ++ flat_map (λ row. token_line (name_of tables.now.accounts row.now.user) row.now) rows.now) }
+{
+    let accounts = tables.accounts.as_slice();
+    let places = places_of(alloc, accounts)?;
+    for row in rows {
+        add_token(alloc, out, name_of(&places, accounts, &row.user), row)?;
+    }
+    Ok(())
 }
 
 fn tokens_text(alloc: Global, tables: &Tables) -> Result<Vec<u8>, Memory>
     ensures { IfOk result (λ text. text.items ≡ tokens_text tables.now) }
 {
-    let accounts = tables.accounts.as_slice();
-    let places = places_of(alloc, accounts)?;
     let rows = by_serial(alloc, tables.tokens.as_slice())?;
     let mut out = Vec::new(alloc);
-    for row in rows.iter() {
-        add_token(alloc, &mut out, name_of(&places, accounts, &row.user), row)?;
-    }
+    add_tokens(alloc, &mut out, tables, rows.as_slice())?;
     Ok(out)
 }
 
