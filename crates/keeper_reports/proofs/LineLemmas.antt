@@ -1,5 +1,7 @@
 -- A line is written column by column.
-use Rattle.std.proofs.Common.{◌≡◌, ℕ, List, [], ◌∷◌, ◌++◌, refl, sym, ap, ◌∙◌, append_assoc}
+use Rattle.std.proofs.Common.{◌≡◌, ℕ, List, [], ◌∷◌, ◌++◌, Bor, map, refl, sym, ap, ◌∙◌, append_assoc}
+use Rattle.std.specs.List.{flat_map}
+use Rattle.std.proofs.lemmas.List.Folds.{flat_map-map}
 use Rattle.keeper_reports.specs.Columns.{line_of}
 
 -- a text, and then another
@@ -21,3 +23,13 @@ line_written out one two three four a b c d e p q r s =
     let behind_two = then two three end (32 ∷ c) (32 ∷ (d ++ 32 ∷ (e ++ 10 ∷ []))) r behind_three in
     let behind_one = then one two end (32 ∷ b) (32 ∷ (c ++ 32 ∷ (d ++ 32 ∷ (e ++ 10 ∷ [])))) q behind_two in
     then out one end a (32 ∷ (b ++ 32 ∷ (c ++ 32 ∷ (d ++ 32 ∷ (e ++ 10 ∷ []))))) p behind_one ∙ ap (λ t. out ++ t) (sym (five_columns a b c d e))
+
+-- the lines of all rows are written to an empty text
+pub rows_written : {R : Type 0} (line : R → List ℕ) (out end : List ℕ) (rows items : List (Bor R)) (held : List R) → out ≡ [] → rows ≡ items → map (λ (row : Bor R). row.now) items ≡ held
+    → end ≡ out ++ flat_map (λ (row : Bor R). line row.now) rows → end ≡ flat_map line held
+rows_written {R} line out end rows items held empty same seen written =
+    written
+    ∙ ap (λ t. t ++ flat_map (λ (row : Bor R). line row.now) rows) empty
+    ∙ ap (flat_map (λ (row : Bor R). line row.now)) same
+    ∙ sym (flat_map-map line (λ (row : Bor R). row.now) items)
+    ∙ ap (flat_map line) seen

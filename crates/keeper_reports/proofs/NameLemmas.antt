@@ -3,6 +3,7 @@ use Rattle.std.proofs.Common.{◌≡◌, ℕ, ◌+◌, ◌<◌, ◌≤◌, ℤ, 
 use Rattle.std.specs.Prelude.{Option, is_some, position, find, slice_get}
 use Rattle.std.specs.BTreeMap.{BTreeMap, Updates, get}
 use Rattle.std.specs.List.{position_or_len}
+use Rattle.std.specs.Option.{option_or}
 use Rattle.std.specs.Ordering.{MatchOrdering, int_cmp, int_eq, is_eq}
 use Rattle.std.proofs.lemmas.Bool.{false≢true}
 use Rattle.std.proofs.lemmas.Bool.Decides.{nat_tests}
@@ -11,7 +12,7 @@ use Rattle.std.proofs.lemmas.List.{take_more, length-take}
 use Rattle.std.proofs.lemmas.List.Folds.{find_at, position_or_len_push}
 use Rattle.std.proofs.lemmas.Option.{slice_get_past, slice_get_read}
 use Rattle.keeper_rows.specs.declared.rows.AccountRow.{AccountRow}
-use Rattle.keeper_reports.specs.Names.{ArePlaces}
+use Rattle.keeper_reports.specs.Names.{IsNoted, ArePlaces}
 
 -- ---- places
 
@@ -60,7 +61,16 @@ this_one test items item missing passes =
     let long = length-append items (item ∷ []) in
     grind (arith, nat_tests, more, le, long)
 
--- ---- accounts
+-- the first place in a list that has grown by an item
+position-push : {A : Type 0} (test : A → Bool) (items : List A) (item : A) → position test (items ++ item ∷ []) ≡ option_or (position test items) (cond (test item) (Some (length items)) None)
+position-push {A} test items item = go (position test items) (test item) refl refl
+  where
+    go : (p : Option ℕ) (b : Bool) → position test items ≡ p → test item ≡ b → position test (items ++ item ∷ []) ≡ option_or (position test items) (cond (test item) (Some (length items)) None)
+    go (Some at) b is _ = still_there test items item (ap is_some is) ∙ is ∙ sym (ap (λ p. option_or p (cond (test item) (Some (length items)) None)) is)
+    go None true is passes = this_one test items item (ap is_some is) passes ∙ sym (ap (λ p. option_or p (cond (test item) (Some (length items)) None)) is ∙ ap (λ b. cond b (Some (length items)) None) passes)
+    go None false is fails = not_this test items item fails ∙ is ∙ sym (ap (λ p. option_or p (cond (test item) (Some (length items)) None)) is ∙ ap (λ b. cond b (Some (length items)) None) fails)
+
+-- ---- ids
 
 same_number : (x y : ℤ) → int_eq x y ≡ true → x ≡ y
 same_number x y e = go (int_cmp x y) (int_ranked x y (int_cmp x y) refl) e
@@ -70,38 +80,43 @@ same_number x y e = go (int_cmp x y) (int_ranked x y (int_cmp x y) refl) e
     go Equal h e = h
     go Greater h e = absurd (false≢true e)
 
+or_none : {A : Type 0} (o : Option A) → o ≡ option_or o None
+or_none None = refl
+or_none (Some x) = refl
+
+-- a new id is given its place
+pub inserted : (old new : BTreeMap ℤ ℕ) (id : ℤ) (place : ℕ) → is_some (get int_cmp old id) ≡ false → Updates int_cmp old new id (Some place) → IsNoted old new id place
+inserted old new id place missing updates other = updates.0 other ∙ go (int_eq id other) refl
+  where
+    nothing : (o : Option ℕ) → is_some o ≡ false → o ≡ None
+    nothing None h = refl
+    nothing (Some x) h = absurd (false≢true (sym h))
+    go : (b : Bool) → int_eq id other ≡ b → cond (int_eq id other) (Some place) (get int_cmp old other) ≡ option_or (get int_cmp old other) (cond (int_eq id other) (Some place) None)
+    go true same =
+        let none : get int_cmp old other ≡ None = nothing (get int_cmp old other) (subst (λ i. is_some (get int_cmp old i) ≡ false) (same_number id other same) missing) in
+        rw (same, none) refl
+    go false same = rw same (or_none (get int_cmp old other))
+
+-- an id that has a place keeps it
+pub untouched : (places : BTreeMap ℤ ℕ) (id : ℤ) (place : ℕ) → is_some (get int_cmp places id) ≡ true → IsNoted places places id place
+untouched places id place there other = go (get int_cmp places other) (int_eq id other) refl refl
+  where
+    go : (o : Option ℕ) (b : Bool) → get int_cmp places other ≡ o → int_eq id other ≡ b → get int_cmp places other ≡ option_or (get int_cmp places other) (cond (int_eq id other) (Some place) None)
+    go (Some at) b is _ = is ∙ sym (ap (λ o. option_or o (cond (int_eq id other) (Some place) None)) is)
+    go None false is other_id = rw other_id (or_none (get int_cmp places other))
+    go None true is same = absurd (false≢true (sym (ap is_some is) ∙ subst (λ i. is_some (get int_cmp places i) ≡ true) (same_number id other same) there))
+
+-- ---- accounts
+
 abbrev has : ℤ → AccountRow → Bool
 has id a = int_eq a.id id
 
-one_more : (accounts : List AccountRow) (at : ℕ) (account : AccountRow) → account ≡ get_or accounts at account → at < length accounts → take (at + 1) accounts ≡ take at accounts ++ account ∷ []
-one_more accounts at account is lt = take_more accounts at account lt ∙ ap (λ a. take at accounts ++ a ∷ []) (sym is)
-
--- an account whose id is new
-pub noted : (old new : BTreeMap ℤ ℕ) (accounts : List AccountRow) (at : ℕ) (account : AccountRow) → account ≡ get_or accounts at account → at < length accounts → ArePlaces old (take at accounts)
-    → is_some (get int_cmp old account.id) ≡ false → Updates int_cmp old new account.id (Some at) → ArePlaces new (take (at + 1) accounts)
-noted old new accounts at account is lt before missing updates id = updates.0 id ∙ go (int_eq account.id id) refl
-  where
-    long : length (take at accounts) ≡ at
-    long = length-take at accounts ∙ omega arith
-    go : (b : Bool) → int_eq account.id id ≡ b → cond (int_eq account.id id) (Some at) (get int_cmp old id) ≡ position (has id) (take (at + 1) accounts)
-    go true same =
-        let here : is_some (position (has id) (take at accounts)) ≡ false = ap is_some (sym (before id)) ∙ subst (λ i. is_some (get int_cmp old i) ≡ false) (same_number account.id id same) missing in
-        let placed : position (has id) (take at accounts ++ account ∷ []) ≡ Some (length (take at accounts)) = this_one (has id) (take at accounts) account here same in
-        rw (same, one_more accounts at account is lt, placed, long) refl
-    go false same =
-        let kept : position (has id) (take at accounts ++ account ∷ []) ≡ position (has id) (take at accounts) = not_this (has id) (take at accounts) account same in
-        rw (same, one_more accounts at account is lt, kept) (before id)
-
--- an account whose id an earlier one has
-pub known : (places : BTreeMap ℤ ℕ) (accounts : List AccountRow) (at : ℕ) (account : AccountRow) → account ≡ get_or accounts at account → at < length accounts → ArePlaces places (take at accounts)
-    → is_some (get int_cmp places account.id) ≡ true → ArePlaces places (take (at + 1) accounts)
-known places accounts at account is lt before there id = go (int_eq account.id id) refl
-  where
-    go : (b : Bool) → int_eq account.id id ≡ b → get int_cmp places id ≡ position (has id) (take (at + 1) accounts)
-    go true same =
-        let here : is_some (position (has id) (take at accounts)) ≡ true = ap is_some (sym (before id)) ∙ subst (λ i. is_some (get int_cmp places i) ≡ true) (same_number account.id id same) there in
-        let kept : position (has id) (take at accounts ++ account ∷ []) ≡ position (has id) (take at accounts) = still_there (has id) (take at accounts) account here in
-        rw (one_more accounts at account is lt, kept) (before id)
-    go false same =
-        let kept : position (has id) (take at accounts ++ account ∷ []) ≡ position (has id) (take at accounts) = not_this (has id) (take at accounts) account same in
-        rw (one_more accounts at account is lt, kept) (before id)
+-- the places of accounts, and of one more
+pub one_more : (old new : BTreeMap ℤ ℕ) (accounts : List AccountRow) (at : ℕ) (account : AccountRow) → account ≡ get_or accounts at account → at < length accounts → ArePlaces old (take at accounts)
+    → IsNoted old new account.id at → ArePlaces new (take (at + 1) accounts)
+one_more old new accounts at account is lt before noted id =
+    let long : length (take at accounts) ≡ at = length-take at accounts ∙ omega arith in
+    let grown : take (at + 1) accounts ≡ take at accounts ++ account ∷ [] = take_more accounts at account lt ∙ ap (λ a. take at accounts ++ a ∷ []) (sym is) in
+    noted id ∙ ap (λ o. option_or o (cond (int_eq account.id id) (Some at) None)) (before id)
+    ∙ ap (λ n. option_or (position (has id) (take at accounts)) (cond (int_eq account.id id) (Some n) None)) (sym long)
+    ∙ sym (ap (position (has id)) grown ∙ position-push (has id) (take at accounts) account)

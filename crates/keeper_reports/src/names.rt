@@ -1,11 +1,22 @@
-ghost use Rattle.std.specs.Prelude.{◌≡◌, IfOk};
-ghost use Rattle.keeper_reports.specs.Names.{ArePlaces};
+ghost use Rattle.std.specs.Prelude.{◌≡◌, IfOk, OnOk};
+ghost use Rattle.keeper_reports.specs.Names.{IsNoted, ArePlaces};
 ghost use Rattle.keeper_reports.specs.Reports.{name_of};
 
 use keeper_rows::AccountRow;
 use login_base::Memory;
 use std::alloc::Global;
 use std::collections::BTreeMap;
+
+/// Notes the place of an id, unless it has one.
+fn note(places: &mut BTreeMap<i64, usize>, id: &i64, place: usize) -> Result<(), Memory>
+    ensures { OnOk result (IsNoted places.old places.new id.now place) }
+{
+    let id = *id;
+    if !places.contains_key(&id) {
+        places.insert(id, place)?;
+    }
+    Ok(())
+}
 
 /// The place of the first account of each id.
 pub(crate) fn places_of(
@@ -16,9 +27,7 @@ pub(crate) fn places_of(
 {
     let mut places = BTreeMap::new(alloc);
     for (place, account) in accounts.iter().enumerate() {
-        if !places.contains_key(&account.id) {
-            places.insert(account.id, place)?;
-        }
+        note(&mut places, &account.id, place)?;
     }
     Ok(places)
 }
