@@ -91,6 +91,7 @@ inserted old new id place missing updates other = updates.0 other ∙ go (int_eq
     nothing : (o : Option ℕ) → is_some o ≡ false → o ≡ None
     nothing None h = refl
     nothing (Some x) h = absurd (false≢true (sym h))
+
     go : (b : Bool) → int_eq id other ≡ b → cond (int_eq id other) (Some place) (get int_cmp old other) ≡ option_or (get int_cmp old other) (cond (int_eq id other) (Some place) None)
     go true same =
         let none : get int_cmp old other ≡ None = nothing (get int_cmp old other) (subst (λ i. is_some (get int_cmp old i) ≡ false) (same_number id other same) missing) in

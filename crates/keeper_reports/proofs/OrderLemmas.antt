@@ -97,8 +97,10 @@ same_in_order {X} lt o (x ∷ xs) (y ∷ ys) up_x up_y same = go (ties lt x y) r
   where
     x_up : (list_all (λ z. not (lt z x)) xs ≡ true) × (ascends lt xs ≡ true)
     x_up = and_parts (list_all (λ z. not (lt z x)) xs) (ascends lt xs) up_x
+
     y_up : (list_all (λ z. not (lt z y)) ys ≡ true) × (ascends lt ys ≡ true)
     y_up = and_parts (list_all (λ z. not (lt z y)) ys) (ascends lt ys) up_y
+
     go : (b : Bool) → ties lt x y ≡ b → (ascends lt xs ≡ true → ascends lt ys ≡ true → ((z : X) → filter (ties lt z) xs ≡ filter (ties lt z) ys) → xs ≡ ys) → x ∷ xs ≡ y ∷ ys
     go true is again =
         let e : x ≡ y = ap (head_or x) (sym (kept (ties lt x) x xs (ties_itself o x)) ∙ same x ∙ kept (ties lt x) y ys is) in
@@ -131,6 +133,7 @@ list_all-insert_before {X} q test row (e ∷ rows) one all = go (test e) refl (l
   where
     parts : (q e ≡ true) × (list_all q rows ≡ true)
     parts = and_parts (q e) (list_all q rows) all
+
     go : (t : Bool) → test e ≡ t → (list_all q rows ≡ true → list_all q (insert_before test row rows) ≡ true) → list_all q (insert_before test row (e ∷ rows)) ≡ true
     go true is later = rw is (both (q row) (list_all q (e ∷ rows)) one all)
     go false is later = rw is (both (q e) (list_all q (insert_before test row rows)) parts.0 (later parts.1))
@@ -142,9 +145,11 @@ ascends-insert {X} lt o row (e ∷ rows) up = go (lt e row) refl (ascends-insert
   where
     parts : (list_all (λ y. not (lt y e)) rows ≡ true) × (ascends lt rows ≡ true)
     parts = and_parts (list_all (λ y. not (lt y e)) rows) (ascends lt rows) up
+
     opposite : (b : Bool) → b ≡ false → not b ≡ true
     opposite true h = absurd (false≢true (sym h))
     opposite false h = refl
+
     go : (b : Bool) → lt e row ≡ b → (ascends lt rows ≡ true → ascends lt (insert_before (λ other. not (lt other row)) row rows) ≡ true) → ascends lt (insert_before (λ other. not (lt other row)) row (e ∷ rows)) ≡ true
     go false is later =
         let behind = list_all-weaker (λ y. not (lt y e)) (λ y. not (lt y row)) (λ y h. opposite (lt y row) (o.chain y e row (negated (lt y e) h) is)) rows parts.0 in

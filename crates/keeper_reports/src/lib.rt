@@ -5,5 +5,7 @@ mod columns;
 mod names;
 mod order;
 mod report;
+#[cfg(test)]
+mod tests;
 
 pub use report::{Report, report_text};

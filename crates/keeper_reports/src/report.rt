@@ -38,7 +38,11 @@ fn on_or_off(account: &AccountRow) -> &'static [u8]
 fn spent_or_not(token: &TokenRow) -> &'static [u8]
     ensures { result.now ≡ spent_or_not token.now }
 {
-    if token.spent == 1 { b"spent" } else { b"unspent" }
+    if token.spent == 1 {
+        b"spent"
+    } else {
+        b"unspent"
+    }
 }
 
 fn add_user(alloc: Global, out: &mut Vec<u8>, row: &AccountRow) -> Result<(), Memory>
@@ -66,12 +70,7 @@ fn add_session(
     add_last(out, shown(row.levels.as_bytes()))
 }
 
-fn add_token(
-    alloc: Global,
-    out: &mut Vec<u8>,
-    name: &[u8],
-    row: &TokenRow,
-) -> Result<(), Memory>
+fn add_token(alloc: Global, out: &mut Vec<u8>, name: &[u8], row: &TokenRow) -> Result<(), Memory>
     ensures { OnOk result (out.new.items ≡ out.old.items ++ token_line name.now row.now) }
 {
     add(out, row.key.as_bytes())?;
