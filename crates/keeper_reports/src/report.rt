@@ -1,6 +1,5 @@
-ghost use Rattle.std.specs.Prelude.{◌≡◌, ◌++◌, IfOk, OnOk, map};
+ghost use Rattle.std.specs.Prelude.{◌≡◌, ◌++◌, IfOk, OnOk};
 ghost use Rattle.std.specs.List.{flat_map};
-ghost use Rattle.keeper_reports.specs.Names.{ArePlaces};
 ghost use Rattle.keeper_reports.specs.Reports.{is_off, on_or_off, user_line, name_of, session_line, spent_or_not, token_line, users_text, sessions_text, tokens_text, report_text};
 
 use crate::columns::{add, add_last, add_left, add_next_left, add_next_number, shown};
@@ -9,7 +8,6 @@ use crate::order::{by_name, by_serial};
 use keeper_rows::{AccountRow, SessionRow, Tables, TokenRow};
 use login_base::Memory;
 use std::alloc::Global;
-use std::collections::BTreeMap;
 
 /// What a report is about.
 #[derive(Clone, Copy, Debug, PartialEq, Eq)]
