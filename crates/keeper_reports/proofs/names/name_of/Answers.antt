@@ -1,4 +1,4 @@
-use Rattle.std.proofs.Common.{◌≡◌, ℕ, Some, None, [], sym, ap, ◌∙◌, rules}
+use Rattle.std.proofs.Common.{◌≡◌, ℕ, Some, None, [], sym, ap, ◌∙◌}
 use Rattle.std.specs.Prelude.{Option, position}
 use Rattle.std.specs.Option.{option_copied, option_map_or}
 use Rattle.std.specs.Ordering.{int_eq}

@@ -1,4 +1,4 @@
-use Rattle.std.proofs.Common.{◌≡◌, Bor, List, map, ap, ◌∙◌, rules}
+use Rattle.std.proofs.Common.{◌≡◌, Bor, map, ap, ◌∙◌, rules}
 use Rattle.std.proofs.lemmas.Cmp.{nat_list_cmp_total}
 use Rattle.keeper_rows.specs.Applied.{text_cmp}
 use Rattle.keeper_rows.specs.declared.rows.AccountRow.{AccountRow}

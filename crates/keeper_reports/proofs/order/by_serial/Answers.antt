@@ -1,4 +1,4 @@
-use Rattle.std.proofs.Common.{◌≡◌, ℕ, Bor, List, map, nat_cmp, ap, ◌∙◌, rules}
+use Rattle.std.proofs.Common.{◌≡◌, Bor, map, nat_cmp, ap, ◌∙◌, rules}
 use Rattle.std.proofs.lemmas.Cmp.{nat_cmp_total}
 use Rattle.keeper_reports.specs.Order.{in_order}
 use Rattle.keeper_reports.proofs.OrderLemmas.{in_order-from_sort_by_key, map-in_order}
