@@ -126,7 +126,7 @@ filter-insert_before {X} p test row (e ∷ rows) apart = go (test e) (p row) (p 
     go false true false is_t is_r is_k later = rw is_t (left_out p e (insert_before test row rows) is_k ∙ later ∙ kept p row rows is_r ∙ ap (λ l. row ∷ l) (sym (left_out p e rows is_k)) ∙ sym (kept p row (e ∷ rows) is_r))
     go false false k is_t is_r is_k later = rw is_t (ap (λ l. cond (p e) (e ∷ l) l) (later ∙ left_out p row rows is_r) ∙ sym (left_out p row (e ∷ rows) is_r))
 
-list_all-insert_before : {X : Type 0} (q test : X → Bool) (row : X) (rows : List X) → q row ≡ true → list_all q rows ≡ true → list_all q (insert_before test row rows) ≡ true
+pub list_all-insert_before : {X : Type 0} (q test : X → Bool) (row : X) (rows : List X) → q row ≡ true → list_all q rows ≡ true → list_all q (insert_before test row rows) ≡ true
 unfolding insert_before
 list_all-insert_before q test row [] one all = both (q row) true one refl
 list_all-insert_before {X} q test row (e ∷ rows) one all = go (test e) refl (list_all-insert_before q test row rows one)

@@ -2,10 +2,12 @@
 #![tactic(auto)]
 
 mod columns;
+mod laws;
 mod names;
 mod order;
 mod report;
 #[cfg(test)]
 mod tests;
 
+pub use laws::{bytes_are_printable, each_row_has_a_line};
 pub use report::{Report, report_text};
