@@ -1,1 +1,3 @@
+pub mod QueryLemmas
+pub mod StateLemmas
 pub mod TellLemmas

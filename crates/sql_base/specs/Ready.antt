@@ -9,6 +9,7 @@ use Rattle.sqlite.specs.declared.types.Value.TheVariants.{Int}
 use Rattle.sqlite.specs.Order.{Row, value_cmp}
 use Rattle.sqlite_trees.specs.Tree.{Trees, IsAscending, rowid}
 use Rattle.sqlite_trees.specs.View.{is_int}
+use Rattle.sqlite.specs.Effect.{IsDatabase}
 use Rattle.sqlite.specs.State.{State}
 use Rattle.sql_base.specs.Schema.{schema}
 use Rattle.sql_base.specs.Told.{session_of, token_of, tables_in}
@@ -42,6 +43,7 @@ pub record AreKept (db : Trees) : Type 0 where
 -- a transaction is open on the tables
 pub record IsReady (s : State) : Type 0 where
   pub schema_is : s.now.schema ≡ schema
+  pub sound : IsDatabase s.now
   pub kept : AreKept s.now.trees
   pub inside : IsTrue s.in_transaction
 
