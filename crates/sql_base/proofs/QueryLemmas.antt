@@ -10,7 +10,6 @@ use Rattle.sqlite.specs.Tree.{Trees}
 use Rattle.sqlite.specs.Term.{Term, lit, col, holds, eval_all}
 use Rattle.sqlite.specs.Query.{Query, Output, output, IsAnswer}
 use Rattle.sqlite_sql.specs.Query.{matches, inner, end}
-use Rattle.sqlite.specs.Program.{overlay}
 use Rattle.sqlite_rules.specs.Lists.{Has}
 use Rattle.sqlite_rules.proofs.ListLemmas.{all_has, all_from, has_right}
 use Rattle.sqlite_rules.proofs.ProbeLemmas.{has_mapped, mapped_has}
@@ -56,12 +55,12 @@ pub record Shows (test shown : List Term) (rows : List Row) (params : Row) (foun
   pub sound : (x : Row) → Has found x → (r : Row) × Has rows r × (list_all (holds (params ∷ r ∷ [])) test ≡ true) × (x ≡ eval_all shown (params ∷ r ∷ []))
   pub complete : (r : Row) → Has rows r → list_all (holds (params ∷ r ∷ [])) test ≡ true → Has found (eval_all shown (params ∷ r ∷ []))
 
-pub shows : (tree : ℕ) (test shown : List Term) (db : Trees) (params : Row) (found : List Row) → IsAnswer (one_query tree test shown) (overlay db []) params found → Shows test shown (db tree) params found
+pub shows : (tree : ℕ) (test shown : List Term) (db : Trees) (params : Row) (found : List Row) → IsAnswer (one_query tree test shown) db params found → Shows test shown (db tree) params found
 shows tree test shown db params found answer =
     let q = one_query tree test shown in
     let passes = λ (r : Row). list_all (holds (params ∷ r ∷ [])) test in
     let env = λ (r : Row). params ∷ r ∷ [] in
-    let all = matches (overlay db []) test (inner tree end) (params ∷ []) in
+    let all = matches db test (inner tree end) (params ∷ []) in
     let kept : answer.kept ≡ map (output q) all = answer.distinct ∙ ap (map (output q)) answer.grouped in
     record {
       sound = λ x h.
@@ -84,7 +83,7 @@ map_map f g [] = refl
 map_map f g (x ∷ xs) = ap (λ l. f (g x) ∷ l) (map_map f g xs)
 
 -- the answer of the query of all rows
-pub all_shown : (tree : ℕ) (first : Term) (shown : List Term) (db : Trees) (rows : List Row) → IsAnswer (all_query tree first shown) (overlay db []) [] rows
+pub all_shown : (tree : ℕ) (first : Term) (shown : List Term) (db : Trees) (rows : List Row) → IsAnswer (all_query tree first shown) db [] rows
     → IsPermutation (map (λ r. eval_all shown ([] ∷ r ∷ [])) (db tree)) rows
 all_shown tree first shown db rows a =
     let q = all_query tree first shown in

@@ -1,4 +1,5 @@
 pub mod Faults
 pub mod Schema
+pub mod Spares
 pub mod Told
 pub mod Ready
