@@ -1,0 +1,4 @@
+mod AccountTexts
+mod NumberLemmas
+mod TableLemmas
+mod WriteLemmas
