@@ -1,3 +1,4 @@
+mod AccountLemmas
 mod AccountTexts
 mod NumberLemmas
 mod TableLemmas
