@@ -1,4 +1,5 @@
-use Rattle.std.proofs.Common.{arith}
+use Rattle.std.proofs.Common.{arith, w64}
+use Rattle.std.proofs.lemmas.Int.{to_z-of_z}
 use Rattle.sqlite.specs.State.{HasCleanDisk}
 use Rattle.sqlite.specs.Held.{state}
 use Rattle.sql_accounts.proofs.AccountLemmas.{drop_done}
@@ -10,4 +11,4 @@ returns-clause-ok g c clean =
     let new = state g.S.Store c.execute.new.self.conn.now in
     let early : HasCleanDisk old = omega (arith, c.execute.ensures.survives.clean) in
     let ready = c.requires.ready early in
-    drop_done old new ready c.args.id c.in_ok-_count._count (c.in_ok-_count.ensures.runs clean ready.inside)
+    drop_done old new ready c.args.id c.in_ok-_count._count (rw (c.params-to_sql.ensures, to_z-of_z w64 c.args.id c.ranges.id) at (c.in_ok-_count.ensures.runs clean ready.inside))
