@@ -7,13 +7,16 @@ use Rattle.sqlite.specs.Term.{Term, lit, col, op2}
 use Rattle.sqlite_sql.specs.declared.ops.BinaryOp.TheVariants.{Compare}
 use Rattle.sqlite_sql.specs.declared.ops.CompareOp.TheVariants.{Eq}
 use Rattle.sqlite.specs.Source.TheVariants.{Values}
+use Rattle.sqlite.specs.Change.{created}
+use Rattle.sqlite.specs.Compile.{table_defined_by}
+use Rattle.sqlite.specs.Does.{lacks_sequence}
 use Rattle.sqlite.specs.Listing.{understood, reads_listing}
 use Rattle.sqlite.specs.Command.{Command}
-use Rattle.sqlite.specs.Command.TheVariants.{Nothing, InsertOr, Delete, Select}
+use Rattle.sqlite.specs.Command.TheVariants.{Nothing, InsertOr, Delete, Select, CreateTable}
 use Rattle.sqlite_schema.specs.declared.command.Conflict.TheVariants.{Abort}
 use Rattle.sqlite_tied.specs.Compute.{everything}
-use Rattle.sqlite.proofs.Callers.{IsPlain, command_of}
-use Rattle.sql_base.specs.Schema.{account, schema}
+use Rattle.sqlite.proofs.Callers.{IsPlain, command_of, statement_of}
+use Rattle.sql_base.specs.Schema.{account, account_text, schema_1, schema}
 use Rattle.sql_base.proofs.QueryLemmas.{one_query, all_query}
 use Rattle.sql_accounts.proofs.NumberLemmas.{rowid_test}
 
@@ -54,6 +57,17 @@ abbrev pub load_command : Command
 load_command =
     Select (record { lets = []; body = all_query 1 (col 1 0) load_terms })
     (codes "id" ∷ codes "name" ∷ codes "roles" ∷ codes "enabled" ∷ codes "count" ∷ codes "last" ∷ codes "until" ∷ codes "permanent" ∷ codes "actions" ∷ [])
+
+pub create_is : (command_of (understood schema_1 account_text) ≡ CreateTable) × (statement_of account_text (understood schema_1 account_text) ≡ account_text) × (table_defined_by account_text ≡ Ok account)
+unfolding understood everything
+create_is = (refl, refl, refl)
+
+pub create_plain : IsPlain (understood schema_1 account_text)
+unfolding understood everything
+create_plain = (refl, refl)
+
+pub create_lacks : lacks_sequence (created schema_1 account) ≡ false
+create_lacks = refl
 
 pub put_is : command_of (understood schema put_text) ≡ put_command
 unfolding understood everything

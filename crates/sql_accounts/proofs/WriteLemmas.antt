@@ -69,6 +69,10 @@ pub record Leaves (table : Table) (rows : List Row) (db next : Trees) : Type 0 w
 abbrev pub task_of : Option ℕ → Keys → Table → Row → Task
 task_of limit keys table params = record { limit = limit; keys = keys; schema = schema; table = table; params = params }
 
+pub either : (b : Bool) (x : Value) → cond b x x ≡ x
+either true x = refl
+either false x = refl
+
 some_in : (table : Table) (xs : List Row) (x : Row) → Has xs x → (0 < length (ids_of xs)) × (0 < length (map (λ (s : Row). cast_row table (drop 1 s)) xs))
 some_in table [] x none = absurd none
 some_in table (y ∷ xs) x has = (omega arith, omega arith)

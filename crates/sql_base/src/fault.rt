@@ -1,3 +1,4 @@
+use login_base::Memory;
 use sqlite::{Error, ErrorCode};
 
 /// Why the store refused a statement.
@@ -20,5 +21,16 @@ impl From<Error> for Fault {
             Error::SqliteFailure(ErrorCode::OutOfMemory) => Fault::Memory,
             _ => Fault::Failed,
         }
+    }
+}
+
+impl From<Memory> for Fault {
+    ghost use Rattle.std.specs.Prelude.{◌≡◌};
+    ghost use Rattle.sql_base.specs.declared.fault.Fault.TheVariants as faults;
+
+    ghost from_gives = { λ _ fault. fault ≡ faults.Memory };
+
+    fn from(_memory: Memory) -> Fault {
+        Fault::Memory
     }
 }

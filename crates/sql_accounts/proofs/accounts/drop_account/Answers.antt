@@ -11,4 +11,5 @@ returns-clause-ok g c clean =
     let new = state g.S.Store c.execute.new.self.conn.now in
     let early : HasCleanDisk old = omega (arith, c.execute.ensures.survives.clean) in
     let ready = c.requires.ready early in
-    drop_done old new ready c.args.id c.in_ok-_count._count (rw (c.params-to_sql.ensures, to_z-of_z w64 c.args.id c.ranges.id) at (c.in_ok-_count.ensures.runs clean ready.inside))
+    drop_done old new ready c.args.id c.in_ok-execute.field-0
+    (rw (c.params-to_sql.ensures, to_z-of_z w64 c.args.id c.ranges.id) at (c.in_ok-execute.ensures.runs clean ready.inside))
