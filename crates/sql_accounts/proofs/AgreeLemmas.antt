@@ -1,5 +1,5 @@
 -- Two databases that have the same rows tell the same.
-use Rattle.std.proofs.Common.{◌≡◌, pos, List, map, refl, sym, subst}
+use Rattle.std.proofs.Common.{◌≡◌, pos, map, refl, sym, subst}
 use Rattle.std.specs.List.{AllByRecursion}
 use Rattle.sqlite.specs.declared.types.Value.TheVariants.{Int}
 use Rattle.sqlite.specs.Tree.{Trees}

@@ -1,14 +1,12 @@
 -- What the texts on marks do.
-use Rattle.std.proofs.Common.{◌≡◌, ℕ, ℤ, pos, Bool, true, false, cond, List, [], ◌∷◌, ◌&&◌, ◌||◌, map, Ok, Err, Result, OnOk, IfOk, None, Some, refl, sym, ap, subst, ◌∙◌, arith}
-use Rattle.std.specs.Ordering.{is_eq, int_cmp, nat_cmp}
-use Rattle.std.specs.List.{AllByRecursion, list_all}
-use Rattle.std.proofs.lemmas.Cmp.{int_cmp_total, nat_cmp_total}
+use Rattle.std.proofs.Common.{◌≡◌, ℕ, pos, Bool, true, false, List, [], ◌∷◌, ◌&&◌, ◌||◌, map, Ok, Result, OnOk, None, Some, refl, sym, ap, subst, ◌∙◌}
+use Rattle.std.specs.Ordering.{is_eq, nat_cmp}
+use Rattle.std.specs.List.{AllByRecursion}
+use Rattle.std.proofs.lemmas.Cmp.{nat_cmp_total}
 use Rattle.std.proofs.lemmas.Cmp.{tied_itself}
 use Rattle.sqlite_value.proofs.OrderLemmas.{value_cmp_total}
-use Rattle.sqlite.specs.declared.types.Value.{Value}
-use Rattle.sqlite.specs.declared.types.Value.TheVariants.{Null, Int, Text, Blob}
+use Rattle.sqlite.specs.declared.types.Value.TheVariants.{Null, Int}
 use Rattle.sqlite.specs.Order.{Row, value_cmp}
-use Rattle.sqlite_value.proofs.OrderLemmas.{value_cmp-Int}
 use Rattle.sqlite_value.specs.Keys.{first_key}
 use Rattle.sqlite.specs.Cast.{cast_row}
 use Rattle.sqlite.specs.Ops.{unary}
@@ -20,9 +18,9 @@ use Rattle.sqlite_rules.specs.Edit.{id_in}
 use Rattle.sqlite_rules.specs.Keys.{conflicts}
 use Rattle.sqlite_rules.proofs.TableLemmas.{int_is}
 use Rattle.sqlite.specs.declared.error.Error.{Error}
-use Rattle.sqlite.specs.Does.{Tally, Does}
+use Rattle.sqlite.specs.Does.{Does}
 use Rattle.sqlite.specs.Listing.{understood}
-use Rattle.sqlite.specs.State.{State, mode_of, Writes, Executes, ExecutesInside, Shown, IsUnchanged}
+use Rattle.sqlite.specs.State.{State, mode_of, ExecutesInside, Shown, IsUnchanged}
 use Rattle.sqlite.proofs.Callers.{statement_of, runs_as}
 use Rattle.keeper_rows.specs.declared.rows.MarkRow.{MarkRow}
 use Rattle.keeper_rows.specs.declared.change.Row.TheVariants as rows
@@ -36,9 +34,8 @@ use Rattle.sql_base.specs.Steps.{IsBegun, IsMade, AreListed}
 use Rattle.sql_base.proofs.CreateLemmas.{creates}
 use Rattle.sql_base.proofs.ListingLemmas.{lists}
 use Rattle.sql_accounts.specs.Shown.{mark_shown}
-use Rattle.sql_base.specs.Spares.{Spares}
 use Rattle.sql_base.specs.Told.{mark_of, by_key, tables_in}
-use Rattle.sql_base.specs.Ready.{AreNumbered, IsNatural, AreKept, IsReady, Changes}
+use Rattle.sql_base.specs.Ready.{AreNumbered, AreKept, IsReady, Changes}
 use Rattle.sql_accounts.proofs.NumberLemmas.{tests_number, numbered_put, numbered_without}
 use Rattle.sql_accounts.proofs.TableLemmas.{IsKeyed, told_without, told_new, all_put, all_without}
 use Rattle.sql_accounts.proofs.AgreeLemmas.{Agree, told_agree, kept_agree}
@@ -116,7 +113,7 @@ module _ (old new : State) (ready : IsReady old) where
       let text_is = statement_of put_text (understood schema put_text) in
       let n = ready.kept.marks in
       let did = puts mark_table (pos 1) (stored row) (given row) put_test put_wanted (upsert row) old.step_limit ((mode_of old).keys) db n (mode_of old) 5 put_terms 5 w.tally new.now refl
-          (subst (λ s. Does old.step_limit (mode_of old) (given row) (record old.now { schema = s }) text_is None put_command (Ok (w.tally, new.now))) ready.schema_is w.changed) in
+      (subst (λ s. Does old.step_limit (mode_of old) (given row) (record old.now { schema = s }) text_is None put_command (Ok (w.tally, new.now))) ready.schema_is w.changed) in
       let all = put_row (stored row) (without_rowid (pos 1) (db 9)) in
       let told = told_new keyed (pos 1) 1 at (db 9) ready.kept.mark_keys n (stored row) refl refl row refl refl in
       record {
@@ -133,7 +130,7 @@ module _ (old new : State) (ready : IsReady old) where
       let text_is = statement_of drop_text (understood schema drop_text) in
       let n = ready.kept.marks in
       let did = drops mark_table (pos 1) own old.step_limit ((mode_of old).keys) db n (mode_of old) 5 w.tally new.now
-          (subst (λ s. Does old.step_limit (mode_of old) (Int (pos 1) ∷ []) (record old.now { schema = s }) text_is None drop_command (Ok (w.tally, new.now))) ready.schema_is w.changed) in
+      (subst (λ s. Does old.step_limit (mode_of old) (Int (pos 1) ∷ []) (record old.now { schema = s }) text_is None drop_command (Ok (w.tally, new.now))) ready.schema_is w.changed) in
       let all = without_rowid (pos 1) (db 9) in
       let told = told_without keyed (pos 1) 1 at (db 9) ready.kept.mark_keys n in
       record {

@@ -1,6 +1,6 @@
 -- What the texts on marks mean.
-use Rattle.std.proofs.Common.{◌≡◌, Ok, Err, refl, List, [], ◌∷◌, Some, None, pos, codes, true, false, ℕ}
-use Rattle.sqlite.specs.declared.types.Value.TheVariants.{Null, Int}
+use Rattle.std.proofs.Common.{◌≡◌, Ok, refl, List, [], ◌∷◌, Some, codes, false, ℕ}
+use Rattle.sqlite.specs.declared.types.Value.TheVariants.{Null}
 use Rattle.sqlite.specs.Collation.TheVariants.{Binary}
 use Rattle.sqlite.specs.Table.{Table}
 use Rattle.sqlite.specs.Term.{Term, lit, col, op2}
@@ -12,7 +12,7 @@ use Rattle.sqlite.specs.Compile.{table_defined_by}
 use Rattle.sqlite.specs.Does.{lacks_sequence}
 use Rattle.sqlite.specs.Listing.{understood, reads_listing}
 use Rattle.sqlite.specs.Command.{Command}
-use Rattle.sqlite.specs.Command.TheVariants.{Nothing, InsertOr, Delete, Select, CreateTable}
+use Rattle.sqlite.specs.Command.TheVariants.{InsertOr, Delete, Select, CreateTable}
 use Rattle.sqlite_schema.specs.declared.command.Conflict.TheVariants.{Abort}
 use Rattle.sqlite_tied.specs.Compute.{everything}
 use Rattle.sqlite.proofs.Callers.{IsPlain, command_of, statement_of}

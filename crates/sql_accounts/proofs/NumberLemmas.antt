@@ -1,29 +1,26 @@
 -- On rows and their rowids.
-use Rattle.std.proofs.Common.{◌≡◌, ◌⊎◌, inl, inr, ℕ, ℤ, pos, ◌<◌, Bool, true, false, not, cond, List, [], ◌∷◌, Some, ◌&&◌, map, filter, length, Ordering, Less, Equal, Greater, refl, sym, ap, subst, ◌∙◌, arith, true≢false}
-use Rattle.std.specs.Cmp.{IsTotalOrder}
+use Rattle.std.proofs.Common.{◌≡◌, ◌⊎◌, inl, inr, ℤ, ◌<◌, Bool, true, false, not, List, [], ◌∷◌, Some, ◌&&◌, map, filter, length, Ordering, Less, Equal, Greater, refl, sym, ap, subst, ◌∙◌, arith, true≢false}
 use Rattle.std.specs.List.{AllByRecursion, list_all}
 use Rattle.std.specs.Ordering.{is_eq, int_cmp, ordering_reverse}
 use Rattle.std.proofs.lemmas.Bool.{cases_Bool}
 use Rattle.std.proofs.lemmas.Bool.Decides.{nat_tests}
 use Rattle.std.proofs.lemmas.Int.{ints}
 use Rattle.std.proofs.lemmas.Cmp.{tied_itself}
-use Rattle.sqlite.specs.declared.types.Value.{Value}
-use Rattle.sqlite.specs.declared.types.Value.TheVariants.{Null, Int}
+use Rattle.sqlite.specs.declared.types.Value.TheVariants.{Int}
 use Rattle.sqlite.specs.Collation.TheVariants.{Binary}
 use Rattle.sqlite.specs.Order.{Row, value_cmp}
 use Rattle.sqlite_value.proofs.OrderLemmas.{value_cmp-Int, value_cmp_total}
-use Rattle.sqlite.specs.Term.{Term, lit, col, op2, holds}
+use Rattle.sqlite.specs.Term.{Term, col, op2, holds}
 use Rattle.sqlite_sql.specs.declared.ops.BinaryOp.TheVariants.{Compare}
 use Rattle.sqlite_sql.specs.declared.ops.CompareOp.TheVariants.{Eq}
-use Rattle.sqlite_sql.specs.Ops.{binary, is_null, is_true, from_truth}
+use Rattle.sqlite_sql.specs.Ops.{binary, is_true, from_truth}
 use Rattle.sqlite_trees.specs.Tree.{IsAscending, rowid, has_rowid, without_rowid, put_row}
 use Rattle.sqlite_trees.specs.View.{is_int}
 use Rattle.sqlite_rules.specs.Lists.{Has}
 use Rattle.sqlite_rules.specs.Edit.{id_in, without_all, put_all}
-use Rattle.sqlite_rules.specs.Calls.{ids_of}
 use Rattle.sqlite_rules.proofs.TableLemmas.{int_is}
 use Rattle.sqlite_rules.proofs.ListLemmas.{all_has, all_from, has_filtered, has_kept}
-use Rattle.sqlite_rules.proofs.ProbeLemmas.{has_mapped, mapped_has}
+use Rattle.sqlite_rules.proofs.ProbeLemmas.{has_mapped}
 use Rattle.sql_base.specs.Ready.{AreApart, AreNumbered}
 
 -- the rowid is the first parameter
@@ -147,9 +144,10 @@ filter_apart {X} R p (x ∷ xs) up = go (p x) refl (filter_apart R p xs up.1)
 
 pub map_apart : {X Y : Type 0} (P : X → X → Type 0) (Q : Y → Y → Type 0) (f : X → Y) (xs : List X) → ((a b : X) → Has xs a → Has xs b → P a b → Q (f a) (f b)) → IsAscending P xs → IsAscending Q (map f xs)
 map_apart P Q f [] carries up = tt
-map_apart P Q f (x ∷ xs) carries up =
-    (all_from (Q (f x)) (map f xs) (λ y h. let it = has_mapped f xs y h in subst (Q (f x)) (sym it.2) (carries x it.0 (inl refl) (inr it.1) (all_has (P x) xs it.0 up.0 it.1))),
-    map_apart P Q f xs (λ a b g h. carries a b (inr g) (inr h)) up.1)
+map_apart P Q f (x ∷ xs) carries up = (
+  all_from (Q (f x)) (map f xs) (λ y h. let it = has_mapped f xs y h in subst (Q (f x)) (sym it.2) (carries x it.0 (inl refl) (inr it.1) (all_has (P x) xs it.0 up.0 it.1))),
+  map_apart P Q f xs (λ a b g h. carries a b (inr g) (inr h)) up.1,
+)
 
 pub numbered_without : (id : ℤ) (rows : List Row) → AreNumbered rows → AreNumbered (without_rowid id rows)
 numbered_without id rows n = record {

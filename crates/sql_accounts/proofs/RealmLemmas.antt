@@ -1,15 +1,14 @@
 -- What the texts on realms do.
-use Rattle.std.proofs.Common.{◌≡◌, ℕ, ℤ, pos, Bool, true, false, cond, List, [], ◌∷◌, ◌&&◌, ◌||◌, map, Ok, Err, Result, OnOk, IfOk, None, Some, refl, sym, ap, subst, ◌∙◌, arith}
-use Rattle.std.specs.Ordering.{is_eq, int_cmp, nat_cmp}
-use Rattle.std.specs.List.{AllByRecursion, list_all}
-use Rattle.std.proofs.lemmas.Cmp.{int_cmp_total, nat_cmp_total}
+use Rattle.std.proofs.Common.{◌≡◌, ℕ, pos, Bool, true, false, List, [], ◌∷◌, ◌&&◌, ◌||◌, map, Ok, Result, OnOk, None, Some, refl, ap, subst, ◌∙◌, arith}
+use Rattle.std.specs.Ordering.{is_eq, nat_cmp}
+use Rattle.std.specs.List.{AllByRecursion}
+use Rattle.std.proofs.lemmas.Cmp.{nat_cmp_total}
 use Rattle.std.proofs.lemmas.Bool.Decides.{nat_tests}
 use Rattle.std.proofs.lemmas.Int.{ints}
 use Rattle.realm_data.specs.declared.realm_parts.RealmParts.{RealmParts}
 use Rattle.realm_file.specs.RealmFile.{realm_read}
 use Rattle.sql_base.specs.Told.{realm_in}
-use Rattle.sqlite.specs.declared.types.Value.{Value}
-use Rattle.sqlite.specs.declared.types.Value.TheVariants.{Null, Int, Text, Blob}
+use Rattle.sqlite.specs.declared.types.Value.TheVariants.{Null, Int, Text}
 use Rattle.sqlite.specs.Order.{Row, value_cmp}
 use Rattle.sqlite_value.proofs.OrderLemmas.{value_cmp-Int}
 use Rattle.sqlite_value.specs.Keys.{first_key}
@@ -23,9 +22,9 @@ use Rattle.sqlite_rules.specs.Edit.{id_in}
 use Rattle.sqlite_rules.specs.Keys.{conflicts}
 use Rattle.sqlite_rules.proofs.TableLemmas.{int_is}
 use Rattle.sqlite.specs.declared.error.Error.{Error}
-use Rattle.sqlite.specs.Does.{Tally, Does}
+use Rattle.sqlite.specs.Does.{Does}
 use Rattle.sqlite.specs.Listing.{understood}
-use Rattle.sqlite.specs.State.{State, mode_of, Writes, Executes, ExecutesInside, Shown, IsUnchanged}
+use Rattle.sqlite.specs.State.{State, mode_of, ExecutesInside, Shown, IsUnchanged}
 use Rattle.sqlite.proofs.Callers.{statement_of, runs_as}
 use Rattle.keeper_rows.specs.declared.rows.RealmRow.{RealmRow}
 use Rattle.keeper_rows.specs.declared.change.Row.TheVariants as rows
@@ -39,7 +38,6 @@ use Rattle.sql_base.specs.Steps.{IsBegun, IsMade, AreListed}
 use Rattle.sql_base.proofs.CreateLemmas.{creates}
 use Rattle.sql_base.proofs.ListingLemmas.{lists}
 use Rattle.sql_accounts.specs.Shown.{realm_shown}
-use Rattle.sql_base.specs.Spares.{Spares}
 use Rattle.sql_base.specs.Told.{realm_of, by_key, tables_in}
 use Rattle.sql_base.specs.Ready.{AreNumbered, IsNatural, AreKept, IsReady, Changes}
 use Rattle.sql_accounts.proofs.NumberLemmas.{tests_number, numbered_put, numbered_without}
@@ -116,7 +114,7 @@ module _ (old new : State) (ready : IsReady old) where
       let text_is = statement_of put_text (understood schema put_text) in
       let n = ready.kept.realms in
       let did = puts realm_table (pos version) (stored version text) (given version text) put_test put_wanted (upsert version text) old.step_limit ((mode_of old).keys) db n (mode_of old) 0 put_terms 3 w.tally new.now refl
-          (subst (λ s. Does old.step_limit (mode_of old) (given version text) (record old.now { schema = s }) text_is None put_command (Ok (w.tally, new.now))) ready.schema_is w.changed) in
+      (subst (λ s. Does old.step_limit (mode_of old) (given version text) (record old.now { schema = s }) text_is None put_command (Ok (w.tally, new.now))) ready.schema_is w.changed) in
       let all = put_row (stored version text) (without_rowid (pos version) (db 0)) in
       let told = told_new keyed (pos version) version (at version) (db 0) ready.kept.versions n (stored version text) refl (version, refl) (record { version = version; realm = realm }) (ap (λ found. record { version = version; realm = realm_in found }) is) refl in
       record {
@@ -133,7 +131,7 @@ module _ (old new : State) (ready : IsReady old) where
       let text_is = statement_of drop_text (understood schema drop_text) in
       let n = ready.kept.realms in
       let did = drops realm_table (pos version) own old.step_limit ((mode_of old).keys) db n (mode_of old) 0 w.tally new.now
-          (subst (λ s. Does old.step_limit (mode_of old) (Int (pos version) ∷ []) (record old.now { schema = s }) text_is None drop_command (Ok (w.tally, new.now))) ready.schema_is w.changed) in
+      (subst (λ s. Does old.step_limit (mode_of old) (Int (pos version) ∷ []) (record old.now { schema = s }) text_is None drop_command (Ok (w.tally, new.now))) ready.schema_is w.changed) in
       let all = without_rowid (pos version) (db 0) in
       let told = told_without keyed (pos version) version (at version) (db 0) ready.kept.versions n in
       record {

@@ -1,9 +1,7 @@
 -- What the texts on secrets do.
-use Rattle.std.proofs.Common.{◌≡◌, ℕ, ℤ, pos, Bool, true, false, cond, List, [], ◌∷◌, ◌&&◌, ◌||◌, map, Ok, Err, Result, OnOk, IfOk, None, Some, refl, sym, ap, subst, ◌∙◌, arith}
-use Rattle.std.specs.Ordering.{is_eq, int_cmp, nat_cmp}
-use Rattle.std.specs.List.{AllByRecursion, list_all}
-use Rattle.std.proofs.lemmas.Cmp.{int_cmp_total, nat_cmp_total}
-use Rattle.sqlite.specs.declared.types.Value.{Value}
+use Rattle.std.proofs.Common.{◌≡◌, ℕ, ℤ, Bool, true, false, List, [], ◌∷◌, ◌&&◌, ◌||◌, map, Ok, Result, OnOk, None, Some, refl, sym, ap, subst, ◌∙◌}
+use Rattle.std.specs.Ordering.{is_eq, int_cmp}
+use Rattle.std.proofs.lemmas.Cmp.{int_cmp_total}
 use Rattle.sqlite.specs.declared.types.Value.TheVariants.{Null, Int, Text, Blob}
 use Rattle.sqlite.specs.Order.{Row, value_cmp}
 use Rattle.sqlite_value.proofs.OrderLemmas.{value_cmp-Int}
@@ -18,9 +16,9 @@ use Rattle.sqlite_rules.specs.Edit.{id_in}
 use Rattle.sqlite_rules.specs.Keys.{conflicts}
 use Rattle.sqlite_rules.proofs.TableLemmas.{int_is}
 use Rattle.sqlite.specs.declared.error.Error.{Error}
-use Rattle.sqlite.specs.Does.{Tally, Does}
+use Rattle.sqlite.specs.Does.{Does}
 use Rattle.sqlite.specs.Listing.{understood}
-use Rattle.sqlite.specs.State.{State, mode_of, Writes, Executes, ExecutesInside, Shown, IsUnchanged}
+use Rattle.sqlite.specs.State.{State, mode_of, ExecutesInside, Shown, IsUnchanged}
 use Rattle.sqlite.proofs.Callers.{statement_of, runs_as}
 use Rattle.keeper_rows.specs.declared.rows.SecretRow.{SecretRow}
 use Rattle.keeper_rows.specs.declared.change.Row.TheVariants as rows
@@ -34,11 +32,10 @@ use Rattle.sql_base.specs.Steps.{IsBegun, IsMade, AreListed}
 use Rattle.sql_base.proofs.CreateLemmas.{creates}
 use Rattle.sql_base.proofs.ListingLemmas.{lists}
 use Rattle.sql_accounts.specs.Shown.{secret_shown}
-use Rattle.sql_base.specs.Spares.{Spares}
 use Rattle.sql_base.specs.Told.{secret_of, by_key, tables_in}
-use Rattle.sql_base.specs.Ready.{AreNumbered, IsNatural, AreKept, IsReady, Changes}
+use Rattle.sql_base.specs.Ready.{AreNumbered, AreKept, IsReady, Changes}
 use Rattle.sql_accounts.proofs.NumberLemmas.{tests_number, numbered_put, numbered_without}
-use Rattle.sql_accounts.proofs.TableLemmas.{IsKeyed, told_without, told_new, all_put, all_without}
+use Rattle.sql_accounts.proofs.TableLemmas.{IsKeyed, told_without, told_new}
 use Rattle.sql_accounts.proofs.AgreeLemmas.{Agree, told_agree, kept_agree}
 use Rattle.sql_accounts.proofs.WriteLemmas.{IsOwn, IsUpsert, Leaves, puts, drops, either}
 use Rattle.sql_accounts.proofs.SecretTexts.{secret_table, put_text, drop_text, put_terms, put_test, put_wanted, put_command, drop_command, put_is, drop_is, put_plain, drop_plain, load_text, load_is, load_plain, create_is, create_plain, create_lacks}
@@ -114,7 +111,7 @@ module _ (old new : State) (ready : IsReady old) where
       let text_is = statement_of put_text (understood schema put_text) in
       let n = ready.kept.secrets in
       let did = puts secret_table row.serial (stored row) (given row) put_test put_wanted (upsert row) old.step_limit ((mode_of old).keys) db n (mode_of old) 2 put_terms 6 w.tally new.now refl
-          (subst (λ s. Does old.step_limit (mode_of old) (given row) (record old.now { schema = s }) text_is None put_command (Ok (w.tally, new.now))) ready.schema_is w.changed) in
+      (subst (λ s. Does old.step_limit (mode_of old) (given row) (record old.now { schema = s }) text_is None put_command (Ok (w.tally, new.now))) ready.schema_is w.changed) in
       let all = put_row (stored row) (without_rowid row.serial (db 3)) in
       let told = told_new keyed row.serial row.serial (at row.serial) (db 3) n.numbers n (stored row) refl refl row refl refl in
       record {
@@ -131,7 +128,7 @@ module _ (old new : State) (ready : IsReady old) where
       let text_is = statement_of drop_text (understood schema drop_text) in
       let n = ready.kept.secrets in
       let did = drops secret_table id own old.step_limit ((mode_of old).keys) db n (mode_of old) 2 w.tally new.now
-          (subst (λ s. Does old.step_limit (mode_of old) (Int id ∷ []) (record old.now { schema = s }) text_is None drop_command (Ok (w.tally, new.now))) ready.schema_is w.changed) in
+      (subst (λ s. Does old.step_limit (mode_of old) (Int id ∷ []) (record old.now { schema = s }) text_is None drop_command (Ok (w.tally, new.now))) ready.schema_is w.changed) in
       let all = without_rowid id (db 3) in
       let told = told_without keyed id id (at id) (db 3) n.numbers n in
       record {

@@ -1,5 +1,5 @@
 -- What the change of a row by its rowid does to what a table tells.
-use Rattle.std.proofs.Common.{◌≡◌, ◌⊎◌, inl, inr, ℕ, ℤ, Bool, true, false, List, [], ◌∷◌, map, Ordering, refl, sym, ap, subst, ◌∙◌}
+use Rattle.std.proofs.Common.{◌≡◌, inl, inr, ℤ, false, List, map, Ordering, sym, ap, subst, ◌∙◌}
 use Rattle.std.specs.Cmp.{IsTotalOrder}
 use Rattle.std.specs.Ordering.{is_eq}
 use Rattle.std.specs.List.{AllByRecursion}
@@ -59,8 +59,10 @@ module _ {R K : Type 0} {cmp : K → K → Ordering} {key : R → K} {row_of : R
             elim (has_put s (without_rowid id old) r.0 r.1) [
               | inl same ↦ inl (r.2 ∙ ap row_of same ∙ tells)
               | inr g ↦ let left = left_without id old r.0 g in
-              inr (subst (Has (map row_of old)) (sym r.2) (mapped_has row_of old r.0 left.0),
-              ap (λ y. is_eq (cmp (key y) (key row))) r.2 ∙ ap (λ z. is_eq (cmp (key (row_of r.0)) z)) own ∙ at r.0 (all_has P old r.0 all left.0) ∙ left.1)
+                  inr (
+                    subst (Has (map row_of old)) (sym r.2) (mapped_has row_of old r.0 left.0),
+                    ap (λ y. is_eq (cmp (key y) (key row))) r.2 ∙ ap (λ z. is_eq (cmp (key (row_of r.0)) z)) own ∙ at r.0 (all_has P old r.0 all left.0) ∙ left.1,
+                  )
             ];
         has = subst (Has (map row_of new)) tells (mapped_has row_of new s (put_new s (without_rowid id old)));
         back = λ x h other.

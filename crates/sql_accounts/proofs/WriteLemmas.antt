@@ -1,12 +1,12 @@
 -- What an upsert by rowid and a deletion by rowid do, whatever the table is.
-use Rattle.std.proofs.Common.{◌≡◌, ◌≢◌, ◌⊎◌, inl, inr, ℕ, ◌<◌, ◌/◌, ℤ, Bool, true, false, cond, List, [], ◌∷◌, ◌++◌, map, drop, length, Option, Some, None, Ok, Err, Result, refl, sym, ap, subst, ◌∙◌, arith, MatchBool, true≢false, ◌&&◌, ◌||◌}
+use Rattle.std.proofs.Common.{◌≡◌, ◌≢◌, inl, inr, ℕ, ◌<◌, ◌/◌, ℤ, Bool, true, false, cond, List, [], ◌∷◌, ◌++◌, map, drop, length, Option, Some, None, Ok, refl, sym, ap, subst, ◌∙◌, arith, MatchBool, true≢false}
 use Rattle.std.specs.List.{AllByRecursion, list_all}
 use Rattle.std.proofs.lemmas.Bool.{cases_Bool}
 use Rattle.sqlite.specs.declared.types.Value.{Value}
 use Rattle.sqlite.specs.declared.types.Value.TheVariants.{Null, Int}
 use Rattle.sqlite.specs.Order.{Row}
 use Rattle.sqlite.specs.Cast.{cast_row}
-use Rattle.sqlite.specs.Term.{Term, lit, col, holds, eval_all}
+use Rattle.sqlite.specs.Term.{Term, col, holds, eval_all}
 use Rattle.sqlite.specs.Program.{overlay}
 use Rattle.sqlite.specs.Tree.{Trees}
 use Rattle.sqlite.specs.Table.{Table}
@@ -23,7 +23,6 @@ use Rattle.sqlite_rules.specs.Edit.{with_rowid, edit_of, edited, id_in, without_
 use Rattle.sqlite_rules.specs.Action.{works}
 use Rattle.sqlite_rules.specs.Keys.{AreConflicts, conflicts}
 use Rattle.sqlite_rules.specs.Calls.{ids_of}
-use Rattle.sqlite_rules.specs.declared.error.Rowids.{Rowids}
 use Rattle.sqlite_rules.specs.declared.error.Rowids.TheVariants.{Given}
 use Rattle.sqlite_rules.proofs.ListLemmas.{all_has, all_from}
 use Rattle.sqlite_rules.proofs.ProbeLemmas.{has_mapped}
@@ -122,14 +121,14 @@ module _ (table : Table) (id : ℤ) (stored params : Row) (test wanted : List Te
       let step = one_step schema keys db written.0 edit (u.own.unkeyed keys (taken_by db edit) edit.news) written.1 in
       let trees : it.trees ≡ written.0 = ap (λ (w : Written). w.trees) (same_value written.2) in
       let shown_is : (x : Row) → Has found.0 x → x ≡ Int id ∷ stored = λ x in_found.
-          let from = all.sound x in_found in
-          let n = number from.0 from.1 in
-          let it_is = number_is id from.0 n (sym (u.tests from.0 n) ∙ from.2) in
-          from.3 ∙ u.shows from.0 it_is in
+      let from = all.sound x in_found in
+      let n = number from.0 from.1 in
+      let it_is = number_is id from.0 n (sym (u.tests from.0 n) ∙ from.2) in
+      from.3 ∙ u.shows from.0 it_is in
       let ids : AllByRecursion (λ n. n ≡ id) (ids_of found.0) = all_from _ (ids_of found.0) (λ n h.
-          let x = has_mapped (λ (y : Row). id_in (rowid y)) found.0 n h in x.2 ∙ ap (λ (y : Row). id_in (rowid y)) (shown_is x.0 x.1)) in
+      let x = has_mapped (λ (y : Row). id_in (rowid y)) found.0 n h in x.2 ∙ ap (λ (y : Row). id_in (rowid y)) (shown_is x.0 x.1)) in
       let new_rows : AllByRecursion (λ y. y ≡ stored) (map (λ (s : Row). cast_row table (drop 1 s)) found.0) = all_from _ _ (λ y h.
-          let x = has_mapped (λ (s : Row). cast_row table (drop 1 s)) found.0 y h in x.2 ∙ ap (λ (s : Row). cast_row table (drop 1 s)) (shown_is x.0 x.1) ∙ u.cast_is) in
+      let x = has_mapped (λ (s : Row). cast_row table (drop 1 s)) found.0 y h in x.2 ∙ ap (λ (s : Row). cast_row table (drop 1 s)) (shown_is x.0 x.1) ∙ u.cast_is) in
       let there_is = all.complete r has (u.tests r (number r has) ∙ same) in
       let count = some_in table found.0 _ there_is in
       let left = without_same id (ids_of found.0) (db table.tree) ids (λ x _ _. count.0) in
@@ -206,18 +205,20 @@ module _ (table : Table) (id : ℤ) (own : IsOwn table) (limit : Option ℕ) (ke
       let edit = edit_of db table (ids_of found.0) Given 0 [] in
       let step = one_step schema keys db written.0 edit (own.unkeyed keys (taken_by db edit) edit.news) written.1 in
       let all : Shows rowid_test (col 1 0 ∷ []) (db table.tree) params found.0 =
-          subst (λ rows. Shows rowid_test (col 1 0 ∷ []) rows params found.0) (own.plain db) (shows table.tree rowid_test (col 1 0 ∷ []) (overlay db []) params found.0 (found.1.answer Null)) in
+      subst (λ rows. Shows rowid_test (col 1 0 ∷ []) rows params found.0) (own.plain db) (shows table.tree rowid_test (col 1 0 ∷ []) (overlay db []) params found.0 (found.1.answer Null)) in
       let number : (r : Row) → Has (db table.tree) r → is_int (rowid r) ≡ true = λ r h. all_has _ (db table.tree) r keyed.numbers h in
       let ids : AllByRecursion (λ n. n ≡ id) (ids_of found.0) = all_from _ (ids_of found.0) (λ n h.
-          let x = has_mapped (λ (r : Row). id_in (rowid r)) found.0 n h in
-          let r = all.sound x.0 x.1 in
-          let is : has_rowid id r.0 ≡ true = sym (tests_number id r.0 (number r.0 r.1)) ∙ r.2 in
-          x.2 ∙ ap (λ (y : Row). id_in (rowid y)) r.3 ∙ ap id_in (number_is id r.0 (number r.0 r.1) is)) in
+      let x = has_mapped (λ (r : Row). id_in (rowid r)) found.0 n h in
+      let r = all.sound x.0 x.1 in
+      let is : has_rowid id r.0 ≡ true = sym (tests_number id r.0 (number r.0 r.1)) ∙ r.2 in
+      x.2 ∙ ap (λ (y : Row). id_in (rowid y)) r.3 ∙ ap id_in (number_is id r.0 (number r.0 r.1) is)) in
       let some : (r : Row) → Has (db table.tree) r → has_rowid id r ≡ true → 0 < length (ids_of found.0) = λ r h is.
-          (some_in table found.0 _ (all.complete r h (tests_number id r (number r h) ∙ is))).0 in
+      (some_in table found.0 _ (all.complete r h (tests_number id r (number r h) ∙ is))).0 in
       let left = without_same id (ids_of found.0) (db table.tree) ids some in
-      let same = ap (λ (d : Database). d.trees) now ∙ trees in
-      (ap (λ (d : Database). d.schema) now, record {
-        rows_are = ap (λ (t : Trees). t table.tree) same ∙ step.rows ∙ left;
-        others = subst (Spares table.tree db) (sym same) (own.spared db written.0 step.tables);
-      })
+      let same = ap (λ (d : Database). d.trees) now ∙ trees in (
+        ap (λ (d : Database). d.schema) now,
+        record {
+          rows_are = ap (λ (t : Trees). t table.tree) same ∙ step.rows ∙ left;
+          others = subst (Spares table.tree db) (sym same) (own.spared db written.0 step.tables);
+        },
+      )

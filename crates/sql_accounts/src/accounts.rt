@@ -22,7 +22,7 @@ pub fn create_accounts<S: Alter>(tx: &mut Transaction<'_, S>) -> Result<(), Faul
         (IsMade schema_1 schema_2 (state S.Store tx.old.conn.now) (state S.Store tx.new.conn.now)) }
     ensures err { HasCleanDisk (state S.Store tx.new.conn.now) → OnErr result
         (IsUnchanged (state S.Store tx.old.conn.now) (state S.Store tx.new.conn.now)
-            ⊎ IsRolledBack (state S.Store tx.old.conn.now) (state S.Store tx.new.conn.now)) }
+        ⊎ IsRolledBack (state S.Store tx.old.conn.now) (state S.Store tx.new.conn.now)) }
     ensures survives { Survives (state S.Store tx.old.conn.now) (state S.Store tx.new.conn.now) (λ _. ⊥) }
 {
     tx.execute(
@@ -54,15 +54,25 @@ pub fn put_account<S: Alter>(tx: &mut Transaction<'_, S>, row: &AccountRow) -> R
     ensures same_reference { tx.new.conn.ghost_name ≡ tx.old.conn.ghost_name }
     ensures ok { HasCleanDisk (state S.Store tx.new.conn.now) → OnOk result
         (Changes (state S.Store tx.old.conn.now) (state S.Store tx.new.conn.now)
-            (put_row (rows.Account row.now) (tables_in (state S.Store tx.old.conn.now).now.trees))) }
+        (put_row (rows.Account row.now) (tables_in (state S.Store tx.old.conn.now).now.trees))) }
     ensures err { HasCleanDisk (state S.Store tx.new.conn.now) → OnErr result
         (IsUnchanged (state S.Store tx.old.conn.now) (state S.Store tx.new.conn.now)
-            ⊎ IsRolledBack (state S.Store tx.old.conn.now) (state S.Store tx.new.conn.now)) }
+        ⊎ IsRolledBack (state S.Store tx.old.conn.now) (state S.Store tx.new.conn.now)) }
     ensures survives { Survives (state S.Store tx.old.conn.now) (state S.Store tx.new.conn.now) (λ _. ⊥) }
 {
     tx.execute(
         "INSERT INTO account (id, name, roles, enabled, count, last, until, permanent, actions) VALUES (?1, ?2, ?3, ?4, ?5, ?6, ?7, ?8, ?9) ON CONFLICT (id) DO UPDATE SET name = excluded.name, roles = excluded.roles, enabled = excluded.enabled, count = excluded.count, last = excluded.last, until = excluded.until, permanent = excluded.permanent, actions = excluded.actions",
-        params![row.id, row.name.as_str(), row.roles.as_str(), row.enabled, row.count, row.last, row.until, row.permanent, row.actions.as_str()],
+        params![
+            row.id,
+            row.name.as_str(),
+            row.roles.as_str(),
+            row.enabled,
+            row.count,
+            row.last,
+            row.until,
+            row.permanent,
+            row.actions.as_str()
+        ],
     )?;
     Ok(())
 }
@@ -73,10 +83,10 @@ pub fn drop_account<S: Alter>(tx: &mut Transaction<'_, S>, id: i64) -> Result<()
     ensures same_reference { tx.new.conn.ghost_name ≡ tx.old.conn.ghost_name }
     ensures ok { HasCleanDisk (state S.Store tx.new.conn.now) → OnOk result
         (Changes (state S.Store tx.old.conn.now) (state S.Store tx.new.conn.now)
-            (drop_row (keys.Account id) (tables_in (state S.Store tx.old.conn.now).now.trees))) }
+        (drop_row (keys.Account id) (tables_in (state S.Store tx.old.conn.now).now.trees))) }
     ensures err { HasCleanDisk (state S.Store tx.new.conn.now) → OnErr result
         (IsUnchanged (state S.Store tx.old.conn.now) (state S.Store tx.new.conn.now)
-            ⊎ IsRolledBack (state S.Store tx.old.conn.now) (state S.Store tx.new.conn.now)) }
+        ⊎ IsRolledBack (state S.Store tx.old.conn.now) (state S.Store tx.new.conn.now)) }
     ensures survives { Survives (state S.Store tx.old.conn.now) (state S.Store tx.new.conn.now) (λ _. ⊥) }
 {
     tx.execute("DELETE FROM account WHERE id = ?1", params![id])?;

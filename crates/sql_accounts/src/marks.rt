@@ -22,7 +22,7 @@ pub fn create_marks<S: Alter>(tx: &mut Transaction<'_, S>) -> Result<(), Fault>
         (IsMade schema_5 schema (state S.Store tx.old.conn.now) (state S.Store tx.new.conn.now)) }
     ensures err { HasCleanDisk (state S.Store tx.new.conn.now) → OnErr result
         (IsUnchanged (state S.Store tx.old.conn.now) (state S.Store tx.new.conn.now)
-            ⊎ IsRolledBack (state S.Store tx.old.conn.now) (state S.Store tx.new.conn.now)) }
+        ⊎ IsRolledBack (state S.Store tx.old.conn.now) (state S.Store tx.new.conn.now)) }
     ensures survives { Survives (state S.Store tx.old.conn.now) (state S.Store tx.new.conn.now) (λ _. ⊥) }
 {
     tx.execute(
@@ -54,10 +54,10 @@ pub fn put_mark<S: Alter>(tx: &mut Transaction<'_, S>, row: &MarkRow) -> Result<
     ensures same_reference { tx.new.conn.ghost_name ≡ tx.old.conn.ghost_name }
     ensures ok { HasCleanDisk (state S.Store tx.new.conn.now) → OnOk result
         (Changes (state S.Store tx.old.conn.now) (state S.Store tx.new.conn.now)
-            (put_row (rows.Mark row.now) (tables_in (state S.Store tx.old.conn.now).now.trees))) }
+        (put_row (rows.Mark row.now) (tables_in (state S.Store tx.old.conn.now).now.trees))) }
     ensures err { HasCleanDisk (state S.Store tx.new.conn.now) → OnErr result
         (IsUnchanged (state S.Store tx.old.conn.now) (state S.Store tx.new.conn.now)
-            ⊎ IsRolledBack (state S.Store tx.old.conn.now) (state S.Store tx.new.conn.now)) }
+        ⊎ IsRolledBack (state S.Store tx.old.conn.now) (state S.Store tx.new.conn.now)) }
     ensures survives { Survives (state S.Store tx.old.conn.now) (state S.Store tx.new.conn.now) (λ _. ⊥) }
 {
     tx.execute(
@@ -73,10 +73,10 @@ pub fn drop_mark<S: Alter>(tx: &mut Transaction<'_, S>) -> Result<(), Fault>
     ensures same_reference { tx.new.conn.ghost_name ≡ tx.old.conn.ghost_name }
     ensures ok { HasCleanDisk (state S.Store tx.new.conn.now) → OnOk result
         (Changes (state S.Store tx.old.conn.now) (state S.Store tx.new.conn.now)
-            (drop_row keys.Mark (tables_in (state S.Store tx.old.conn.now).now.trees))) }
+        (drop_row keys.Mark (tables_in (state S.Store tx.old.conn.now).now.trees))) }
     ensures err { HasCleanDisk (state S.Store tx.new.conn.now) → OnErr result
         (IsUnchanged (state S.Store tx.old.conn.now) (state S.Store tx.new.conn.now)
-            ⊎ IsRolledBack (state S.Store tx.old.conn.now) (state S.Store tx.new.conn.now)) }
+        ⊎ IsRolledBack (state S.Store tx.old.conn.now) (state S.Store tx.new.conn.now)) }
     ensures survives { Survives (state S.Store tx.old.conn.now) (state S.Store tx.new.conn.now) (λ _. ⊥) }
 {
     tx.execute("DELETE FROM mark WHERE one = ?1", params![1i64])?;

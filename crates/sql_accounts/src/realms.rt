@@ -24,7 +24,7 @@ pub fn create_realms<S: Alter>(tx: &mut Transaction<'_, S>) -> Result<(), Fault>
         (IsMade no_schema schema_1 (state S.Store tx.old.conn.now) (state S.Store tx.new.conn.now)) }
     ensures err { HasCleanDisk (state S.Store tx.new.conn.now) → OnErr result
         (IsUnchanged (state S.Store tx.old.conn.now) (state S.Store tx.new.conn.now)
-            ⊎ IsRolledBack (state S.Store tx.old.conn.now) (state S.Store tx.new.conn.now)) }
+        ⊎ IsRolledBack (state S.Store tx.old.conn.now) (state S.Store tx.new.conn.now)) }
     ensures survives { Survives (state S.Store tx.old.conn.now) (state S.Store tx.new.conn.now) (λ _. ⊥) }
 {
     tx.execute(
@@ -44,23 +44,24 @@ pub fn select_realms<S: Alter>(tx: &mut Transaction<'_, S>) -> Result<Vec<Row>, 
         (IsUnchanged (state S.Store tx.old.conn.now) (state S.Store tx.new.conn.now)) }
     ensures survives { Survives (state S.Store tx.old.conn.now) (state S.Store tx.new.conn.now) (λ _. ⊥) }
 {
-    Ok(tx.query_all(
-        "SELECT version, text FROM realm ORDER BY version",
-        &[],
-    )?)
+    Ok(tx.query_all("SELECT version, text FROM realm ORDER BY version", &[])?)
 }
 
 /// Puts a realm by its version, as a text that reads as it.
-pub fn put_realm<S: Alter>(tx: &mut Transaction<'_, S>, version: i64, text: &str) -> Result<(), Fault>
+pub fn put_realm<S: Alter>(
+    tx: &mut Transaction<'_, S>,
+    version: i64,
+    text: &str,
+) -> Result<(), Fault>
     requires ready { HasCleanDisk (state S.Store tx.old.conn.now) → IsReady (state S.Store tx.old.conn.now) }
     ensures same_reference { tx.new.conn.ghost_name ≡ tx.old.conn.ghost_name }
     ensures ok { (number : ℕ) → version ≡ pos number → (realm : RealmParts) → realm_read text.now ≡ Ok realm
         → HasCleanDisk (state S.Store tx.new.conn.now) → OnOk result
         (Changes (state S.Store tx.old.conn.now) (state S.Store tx.new.conn.now)
-            (put_row (rows.Realm number realm) (tables_in (state S.Store tx.old.conn.now).now.trees))) }
+        (put_row (rows.Realm number realm) (tables_in (state S.Store tx.old.conn.now).now.trees))) }
     ensures err { HasCleanDisk (state S.Store tx.new.conn.now) → OnErr result
         (IsUnchanged (state S.Store tx.old.conn.now) (state S.Store tx.new.conn.now)
-            ⊎ IsRolledBack (state S.Store tx.old.conn.now) (state S.Store tx.new.conn.now)) }
+        ⊎ IsRolledBack (state S.Store tx.old.conn.now) (state S.Store tx.new.conn.now)) }
     ensures survives { Survives (state S.Store tx.old.conn.now) (state S.Store tx.new.conn.now) (λ _. ⊥) }
 {
     tx.execute(
@@ -76,10 +77,10 @@ pub fn drop_realm<S: Alter>(tx: &mut Transaction<'_, S>, version: i64) -> Result
     ensures same_reference { tx.new.conn.ghost_name ≡ tx.old.conn.ghost_name }
     ensures ok { (number : ℕ) → version ≡ pos number → HasCleanDisk (state S.Store tx.new.conn.now) → OnOk result
         (Changes (state S.Store tx.old.conn.now) (state S.Store tx.new.conn.now)
-            (drop_row (keys.Realm number) (tables_in (state S.Store tx.old.conn.now).now.trees))) }
+        (drop_row (keys.Realm number) (tables_in (state S.Store tx.old.conn.now).now.trees))) }
     ensures err { HasCleanDisk (state S.Store tx.new.conn.now) → OnErr result
         (IsUnchanged (state S.Store tx.old.conn.now) (state S.Store tx.new.conn.now)
-            ⊎ IsRolledBack (state S.Store tx.old.conn.now) (state S.Store tx.new.conn.now)) }
+        ⊎ IsRolledBack (state S.Store tx.old.conn.now) (state S.Store tx.new.conn.now)) }
     ensures survives { Survives (state S.Store tx.old.conn.now) (state S.Store tx.new.conn.now) (λ _. ⊥) }
 {
     tx.execute("DELETE FROM realm WHERE version = ?1", params![version])?;

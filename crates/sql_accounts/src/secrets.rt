@@ -22,7 +22,7 @@ pub fn create_secrets<S: Alter>(tx: &mut Transaction<'_, S>) -> Result<(), Fault
         (IsMade schema_2 schema_3 (state S.Store tx.old.conn.now) (state S.Store tx.new.conn.now)) }
     ensures err { HasCleanDisk (state S.Store tx.new.conn.now) → OnErr result
         (IsUnchanged (state S.Store tx.old.conn.now) (state S.Store tx.new.conn.now)
-            ⊎ IsRolledBack (state S.Store tx.old.conn.now) (state S.Store tx.new.conn.now)) }
+        ⊎ IsRolledBack (state S.Store tx.old.conn.now) (state S.Store tx.new.conn.now)) }
     ensures survives { Survives (state S.Store tx.old.conn.now) (state S.Store tx.new.conn.now) (λ _. ⊥) }
 {
     tx.execute(
@@ -55,15 +55,21 @@ pub fn put_secret<S: Alter>(tx: &mut Transaction<'_, S>, row: &SecretRow) -> Res
     ensures same_reference { tx.new.conn.ghost_name ≡ tx.old.conn.ghost_name }
     ensures ok { HasCleanDisk (state S.Store tx.new.conn.now) → OnOk result
         (Changes (state S.Store tx.old.conn.now) (state S.Store tx.new.conn.now)
-            (put_row (rows.Secret row.now) (tables_in (state S.Store tx.old.conn.now).now.trees))) }
+        (put_row (rows.Secret row.now) (tables_in (state S.Store tx.old.conn.now).now.trees))) }
     ensures err { HasCleanDisk (state S.Store tx.new.conn.now) → OnErr result
         (IsUnchanged (state S.Store tx.old.conn.now) (state S.Store tx.new.conn.now)
-            ⊎ IsRolledBack (state S.Store tx.old.conn.now) (state S.Store tx.new.conn.now)) }
+        ⊎ IsRolledBack (state S.Store tx.old.conn.now) (state S.Store tx.new.conn.now)) }
     ensures survives { Survives (state S.Store tx.old.conn.now) (state S.Store tx.new.conn.now) (λ _. ⊥) }
 {
     tx.execute(
         "INSERT INTO secret (serial, user, kind, body, spent) VALUES (?1, ?2, ?3, ?4, ?5) ON CONFLICT (serial) DO UPDATE SET user = excluded.user, kind = excluded.kind, body = excluded.body, spent = excluded.spent",
-        params![row.serial, row.user, row.kind.as_str(), row.body.as_slice(), row.spent.as_str()],
+        params![
+            row.serial,
+            row.user,
+            row.kind.as_str(),
+            row.body.as_slice(),
+            row.spent.as_str()
+        ],
     )?;
     Ok(())
 }
@@ -74,10 +80,10 @@ pub fn drop_secret<S: Alter>(tx: &mut Transaction<'_, S>, serial: i64) -> Result
     ensures same_reference { tx.new.conn.ghost_name ≡ tx.old.conn.ghost_name }
     ensures ok { HasCleanDisk (state S.Store tx.new.conn.now) → OnOk result
         (Changes (state S.Store tx.old.conn.now) (state S.Store tx.new.conn.now)
-            (drop_row (keys.Secret serial) (tables_in (state S.Store tx.old.conn.now).now.trees))) }
+        (drop_row (keys.Secret serial) (tables_in (state S.Store tx.old.conn.now).now.trees))) }
     ensures err { HasCleanDisk (state S.Store tx.new.conn.now) → OnErr result
         (IsUnchanged (state S.Store tx.old.conn.now) (state S.Store tx.new.conn.now)
-            ⊎ IsRolledBack (state S.Store tx.old.conn.now) (state S.Store tx.new.conn.now)) }
+        ⊎ IsRolledBack (state S.Store tx.old.conn.now) (state S.Store tx.new.conn.now)) }
     ensures survives { Survives (state S.Store tx.old.conn.now) (state S.Store tx.new.conn.now) (λ _. ⊥) }
 {
     tx.execute("DELETE FROM secret WHERE serial = ?1", params![serial])?;

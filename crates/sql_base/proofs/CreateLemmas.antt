@@ -1,5 +1,5 @@
 -- What making a table does.
-use Rattle.std.proofs.Common.{◌≡◌, ℕ, false, List, [], None, Ok, Err, Result, OnOk, refl, sym, ap, subst, ◌∙◌}
+use Rattle.std.proofs.Common.{◌≡◌, ℕ, false, List, [], None, Ok, Err, Result, OnOk, sym, ap, subst, ◌∙◌}
 use Rattle.sqlite.specs.Change.{created, next_tree, KeepsRows}
 use Rattle.sqlite.specs.Command.TheVariants.{CreateTable}
 use Rattle.sqlite.specs.Compile.{table_defined_by}

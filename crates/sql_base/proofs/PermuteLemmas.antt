@@ -1,5 +1,5 @@
 -- Keys stay apart in whatever order the rows stand.
-use Rattle.std.proofs.Common.{◌≡◌, inl, inr, ℕ, ◌+◌, ◌≤◌, Bool, true, false, cond, List, [], ◌∷◌, Ordering, Less, Equal, Greater, refl, sym, ap, ◌∙◌, arith, true≢false, IsPermutation}
+use Rattle.std.proofs.Common.{◌≡◌, inl, inr, ℕ, ◌+◌, ◌≤◌, true, false, cond, List, [], ◌∷◌, Ordering, Less, Equal, Greater, refl, sym, ap, ◌∙◌, arith, true≢false, IsPermutation}
 use Rattle.std.specs.Cmp.{IsTotalOrder}
 use Rattle.std.specs.Ordering.{is_eq}
 use Rattle.std.specs.List.{sum_by}
@@ -60,37 +60,39 @@ module _ {R K : Type 0} {cmp : K → K → Ordering} (total : IsTotalOrder cmp) 
   at_most_one [] up k = let empty = none k [] (λ x h. absurd h) in omega (arith, empty)
   at_most_one (x ∷ rows) up k = elim (cases_Bool (is_eq (cmp (key x) k))) [
     | inl is ↦
-      let others : (y : R) → Has rows y → is_eq (cmp (key y) k) ≡ false = λ y h. elim (cases_Bool (is_eq (cmp (key y) k))) [
-        | inl own ↦
-          let one = tied_of (cmp (key x) k) is in
-          let two = tied_of (cmp (key y) k) own in
-          let both : cmp (key x) (key y) ≡ Equal = total.congr (key x) k (key y) one ∙ sym (total.congr (key y) k (key y) two) ∙ tied_itself total (key y) in
-          absurd (true≢false (sym (ap is_eq both) ∙ all_has _ rows y up.0 h))
-        | inr differs ↦ differs
-      ] in
-      let first = hit_true k x is in
-      let rest = none k rows others in
-      let all = one_more k x rows in
-      omega (arith, first, rest, all)
+        let others : (y : R) → Has rows y → is_eq (cmp (key y) k) ≡ false = λ y h. elim (cases_Bool (is_eq (cmp (key y) k))) [
+          | inl own ↦
+              let one = tied_of (cmp (key x) k) is in
+              let two = tied_of (cmp (key y) k) own in
+              let both : cmp (key x) (key y) ≡ Equal = total.congr (key x) k (key y) one ∙ sym (total.congr (key y) k (key y) two) ∙ tied_itself total (key y) in
+              absurd (true≢false (sym (ap is_eq both) ∙ all_has _ rows y up.0 h))
+          | inr differs ↦ differs
+        ] in
+        let first = hit_true k x is in
+        let rest = none k rows others in
+        let all = one_more k x rows in
+        omega (arith, first, rest, all)
     | inr differs ↦
-      let first = hit_false k x differs in
-      let rest = at_most_one rows up.1 k in
-      let all = one_more k x rows in
-      omega (arith, first, rest, all)
+        let first = hit_false k x differs in
+        let rest = at_most_one rows up.1 k in
+        let all = one_more k x rows in
+        omega (arith, first, rest, all)
   ]
 
   apart_by_count : (rows : List R) → ((k : K) → count k rows ≤ 1) → AreApart cmp key rows
   apart_by_count [] few = tt
-  apart_by_count (y ∷ rows) few =
-      (all_from _ rows (λ z h. elim (cases_Bool (is_eq (cmp (key y) (key z)))) [
-        | inl is ↦
+  apart_by_count (y ∷ rows) few = (
+    all_from _ rows (λ z h. elim (cases_Bool (is_eq (cmp (key y) (key z)))) [
+      | inl is ↦
           let first = hit_true (key z) y is in
           let rest = some (key z) rows z h (ap is_eq (tied_itself total (key z))) in
           let all = one_more (key z) y rows in
           let most = few (key z) in
           absurd (omega (arith, first, rest, all, most))
-        | inr differs ↦ differs
-      ]), apart_by_count rows (λ k. let all = one_more k y rows in let most = few k in omega (arith, all, most)))
+      | inr differs ↦ differs
+    ]),
+    apart_by_count rows (λ k. let all = one_more k y rows in let most = few k in omega (arith, all, most)),
+  )
 
   pub apart_permuted : (xs ys : List R) → IsPermutation xs ys → AreApart cmp key xs → AreApart cmp key ys
   unfolding count

@@ -1,5 +1,5 @@
 -- What making a table does, and what a query of all its rows answers.
-use Rattle.std.specs.Prelude.{◌≡◌, ℕ, List, [], map, IsPermutation, IsSortedByKey, IsTrue}
+use Rattle.std.specs.Prelude.{◌≡◌, List, [], map, IsPermutation, IsSortedByKey, IsTrue}
 use Rattle.sqlite.specs.Order.{Row, column, value_cmp}
 use Rattle.sqlite.specs.Schema.{Schema}
 use Rattle.sqlite.specs.Change.{KeepsRows, next_tree}

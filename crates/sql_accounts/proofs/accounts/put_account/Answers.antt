@@ -19,6 +19,23 @@ returns-clause-ok g c clean =
     let until : FitsSigned w64 row.until = search rules in
     let permanent : FitsSigned w64 row.permanent = search rules in
     put_done old new ready row c.in_ok-execute.field-0 (rw (
-    c.params-to_sql.ensures, c.params-to_sql-2.ensures, c.params-to_sql-3.ensures, c.params-to_sql-4.ensures, c.params-to_sql-5.ensures, c.params-to_sql-6.ensures, c.params-to_sql-7.ensures, c.params-to_sql-8.ensures, c.params-to_sql-9.ensures, c.as_str.ensures.text, c.as_str-2.ensures.text, c.as_str-3.ensures.text,
-    to_z-of_z w64 row.id id, to_z-of_z w64 row.enabled enabled, to_z-of_z w64 row.count count, to_z-of_z w64 row.last last, to_z-of_z w64 row.until until, to_z-of_z w64 row.permanent permanent)
+      c.params-to_sql.ensures,
+      c.params-to_sql-2.ensures,
+      c.params-to_sql-3.ensures,
+      c.params-to_sql-4.ensures,
+      c.params-to_sql-5.ensures,
+      c.params-to_sql-6.ensures,
+      c.params-to_sql-7.ensures,
+      c.params-to_sql-8.ensures,
+      c.params-to_sql-9.ensures,
+      c.as_str.ensures.text,
+      c.as_str-2.ensures.text,
+      c.as_str-3.ensures.text,
+      to_z-of_z w64 row.id id,
+      to_z-of_z w64 row.enabled enabled,
+      to_z-of_z w64 row.count count,
+      to_z-of_z w64 row.last last,
+      to_z-of_z w64 row.until until,
+      to_z-of_z w64 row.permanent permanent,
+    )
     at (c.in_ok-execute.ensures.runs clean ready.inside))

@@ -16,6 +16,12 @@ returns-clause-ok g c clean =
     let serial : FitsSigned w64 row.serial = search rules in
     let moment : FitsSigned w64 row.moment = search rules in
     put_done old new ready row c.in_ok-execute.field-0 (rw (
-    c.params-to_sql.ensures, c.params-to_sql-2.ensures, c.params-to_sql-3.ensures, c.params-to_sql-4.ensures,
-    to_z-of_z w64 row.schema schema, to_z-of_z w64 row.serial serial, to_z-of_z w64 row.moment moment)
+      c.params-to_sql.ensures,
+      c.params-to_sql-2.ensures,
+      c.params-to_sql-3.ensures,
+      c.params-to_sql-4.ensures,
+      to_z-of_z w64 row.schema schema,
+      to_z-of_z w64 row.serial serial,
+      to_z-of_z w64 row.moment moment,
+    )
     at (c.in_ok-execute.ensures.runs clean ready.inside))

@@ -15,6 +15,15 @@ returns-clause-ok g c clean =
     let serial : FitsSigned w64 row.serial = search rules in
     let user : FitsSigned w64 row.user = search rules in
     put_done old new ready row c.in_ok-execute.field-0 (rw (
-    c.params-to_sql.ensures, c.params-to_sql-2.ensures, c.params-to_sql-3.ensures, c.params-to_sql-4.ensures, c.params-to_sql-5.ensures, c.as_str.ensures.text, c.as_str-2.ensures.text, c.as_slice.ensures.items,
-    to_z-of_z w64 row.serial serial, to_z-of_z w64 row.user user)
+      c.params-to_sql.ensures,
+      c.params-to_sql-2.ensures,
+      c.params-to_sql-3.ensures,
+      c.params-to_sql-4.ensures,
+      c.params-to_sql-5.ensures,
+      c.as_str.ensures.text,
+      c.as_str-2.ensures.text,
+      c.as_slice.ensures.items,
+      to_z-of_z w64 row.serial serial,
+      to_z-of_z w64 row.user user,
+    )
     at (c.in_ok-execute.ensures.runs clean ready.inside))
