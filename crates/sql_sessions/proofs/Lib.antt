@@ -2,6 +2,7 @@ pub mod Apart
 pub mod Deletes
 pub mod Keys
 pub mod Members
+pub mod SessionLemmas
 pub mod Tells
 pub mod Texts
 pub mod Upserts

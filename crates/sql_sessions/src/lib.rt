@@ -1,2 +1,6 @@
-//! Sessions and tokens in a SQLite database: each statement is a function of its own.
+//! Sessions and tokens in an SQLite database: a function for each statement.
 #![tactic(auto)]
+
+mod session;
+
+pub use session::{drop_session, put_session};

@@ -1,0 +1,58 @@
+ghost use Rattle.std.specs.Prelude.{◌≡◌, ◌⊎◌, OnOk, OnErr, IfErr};
+ghost use Rattle.keeper_rows.specs.Applied.{put_row, drop_row};
+ghost use Rattle.keeper_rows.specs.declared.change.Row.TheVariants as rows;
+ghost use Rattle.keeper_rows.specs.declared.change.RowKey.TheVariants as keys;
+ghost use Rattle.sqlite.specs.Held.{state};
+ghost use Rattle.sqlite.specs.State.{HasCleanDisk, IsUnchanged, IsRolledBack, Survives, ExecutesInside};
+ghost use Rattle.sql_base.specs.Faults.{fault_of};
+ghost use Rattle.sql_base.specs.Ready.{IsReady, Changes};
+ghost use Rattle.sql_base.specs.Told.{tables_in};
+ghost use Rattle.sql_sessions.specs.Texts.{put_session_text};
+ghost use Rattle.sql_sessions.specs.Values.{session_values};
+
+use keeper_rows::{SessionRow, Text};
+use sql_base::Fault;
+use sqlite::{Alter, Transaction, params};
+
+/// Puts a session by its id.
+pub fn put_session<S: Alter>(tx: &mut Transaction<'_, S>, row: &SessionRow) -> Result<(), Fault>
+    requires ready { HasCleanDisk (state S.Store tx.old.conn.now) → IsReady (state S.Store tx.old.conn.now) }
+    ensures same_reference { tx.new.conn.ghost_name ≡ tx.old.conn.ghost_name }
+    ensures ok { HasCleanDisk (state S.Store tx.new.conn.now) → OnOk result
+        (Changes (state S.Store tx.old.conn.now) (state S.Store tx.new.conn.now)
+            (put_row (rows.Session row.now) (tables_in (state S.Store tx.old.conn.now).now.trees))) }
+    ensures err { HasCleanDisk (state S.Store tx.new.conn.now) → OnErr result
+        (IsUnchanged (state S.Store tx.old.conn.now) (state S.Store tx.new.conn.now)
+            ⊎ IsRolledBack (state S.Store tx.old.conn.now) (state S.Store tx.new.conn.now)) }
+    ensures survives { Survives (state S.Store tx.old.conn.now) (state S.Store tx.new.conn.now) (λ _. ⊥) }
+{
+    tx.execute(
+        "INSERT INTO session (id, user, opened, seen, idle, max, levels) VALUES (?1, ?2, ?3, ?4, ?5, ?6, ?7) ON CONFLICT (id) DO UPDATE SET user = excluded.user, opened = excluded.opened, seen = excluded.seen, idle = excluded.idle, max = excluded.max, levels = excluded.levels",
+        params![
+            row.id.as_str(),
+            row.user,
+            row.opened,
+            row.seen,
+            row.idle,
+            row.max,
+            row.levels.as_str()
+        ],
+    )?;
+    Ok(())
+}
+
+/// Drops the session of an id.
+pub fn drop_session<S: Alter>(tx: &mut Transaction<'_, S>, id: &Text) -> Result<(), Fault>
+    requires ready { HasCleanDisk (state S.Store tx.old.conn.now) → IsReady (state S.Store tx.old.conn.now) }
+    ensures same_reference { tx.new.conn.ghost_name ≡ tx.old.conn.ghost_name }
+    ensures ok { HasCleanDisk (state S.Store tx.new.conn.now) → OnOk result
+        (Changes (state S.Store tx.old.conn.now) (state S.Store tx.new.conn.now)
+            (drop_row (keys.Session id.now) (tables_in (state S.Store tx.old.conn.now).now.trees))) }
+    ensures err { HasCleanDisk (state S.Store tx.new.conn.now) → OnErr result
+        (IsUnchanged (state S.Store tx.old.conn.now) (state S.Store tx.new.conn.now)
+            ⊎ IsRolledBack (state S.Store tx.old.conn.now) (state S.Store tx.new.conn.now)) }
+    ensures survives { Survives (state S.Store tx.old.conn.now) (state S.Store tx.new.conn.now) (λ _. ⊥) }
+{
+    tx.execute("DELETE FROM session WHERE id = ?1", params![id.as_str()])?;
+    Ok(())
+}
