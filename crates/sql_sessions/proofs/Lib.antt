@@ -1,6 +1,8 @@
 pub mod Apart
+pub mod Creates
 pub mod Deletes
 pub mod Keys
+pub mod Lists
 pub mod Members
 pub mod SessionLemmas
 pub mod Tells

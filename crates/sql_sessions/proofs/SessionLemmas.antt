@@ -14,7 +14,7 @@ use Rattle.sqlite.specs.Collation.TheVariants.{Binary}
 use Rattle.sqlite.specs.Effect.{Database, IsDatabase}
 use Rattle.sqlite.specs.Ops.{unary}
 use Rattle.sqlite.specs.Order.{Row, value_cmp}
-use Rattle.sqlite.specs.State.{State, ExecutesInside}
+use Rattle.sqlite.specs.State.{State, Shown, IsUnchanged, ExecutesInside}
 use Rattle.sqlite.specs.Table.{Table}
 use Rattle.sqlite.specs.Term.{Term, lit, col}
 use Rattle.sqlite.specs.Tree.{Trees}
@@ -25,15 +25,18 @@ use Rattle.sqlite_schema.specs.declared.schema.Schema.{Schema}
 use Rattle.sqlite_schema.specs.Rules.{equal}
 use Rattle.sqlite_catalog.specs.Listing.{IsSound}
 use Rattle.sqlite_rules.proofs.ListLemmas.{all_has, all_from}
-use Rattle.sql_base.specs.Schema.{schema, session}
+use Rattle.sql_base.specs.Schema.{schema, schema_3, schema_4, session, session_text}
 use Rattle.sql_base.specs.Told.{by_key, session_of, tables_in}
 use Rattle.sql_base.specs.Ready.{AreApart, AreNumbered, AreKept, IsReady, Changes}
-use Rattle.sql_sessions.specs.Texts.{put_session_text, drop_session_text}
-use Rattle.sql_sessions.specs.Values.{session_values}
+use Rattle.sql_sessions.specs.Texts.{put_session_text, drop_session_text, load_session_text}
+use Rattle.sql_sessions.specs.Steps.{IsBegun, IsMade, AreListed}
+use Rattle.sql_sessions.specs.Values.{session_values, session_shown}
+use Rattle.sql_sessions.proofs.Creates.{creates}
+use Rattle.sql_sessions.proofs.Lists.{lists}
 use Rattle.sql_sessions.proofs.Keys.{text_key, keys_apart, told_apart}
 use Rattle.sql_sessions.proofs.Members.{key, HasPut, HasDropped}
 use Rattle.sql_sessions.proofs.Tells.{tells_put, tells_drop}
-use Rattle.sql_sessions.proofs.Texts.{put_session_is, put_session_plain, drop_session_is, drop_session_plain}
+use Rattle.sql_sessions.proofs.Texts.{create_session_is, create_session_plain, load_session_is, load_session_plain, put_session_is, put_session_plain, drop_session_is, drop_session_plain}
 use Rattle.sql_sessions.proofs.Upserts.{IsText, IsUpsert, KeepsOthers}
 use Rattle.sql_sessions.proofs.Writes.{Stands, puts, drops}
 
@@ -155,3 +158,9 @@ drop_changes old new id (Ok count) ready h =
           (tells_drop session_of session_key (λ r. refl) (old.now.trees 5) (new.now.trees 5) texts ready.kept.session_keys still id did.1);
       committed = h.1.committed_is;
     }
+
+pub create_makes : (old new : State) (r : Result ℕ Error) → IsBegun schema_3 old → ExecutesInside 0 session_text [] old new r → OnOk r (IsMade schema_3 schema_4 old new)
+create_makes = creates schema_3 session session_text create_session_is create_session_plain refl
+
+pub select_lists : (old new : State) (rows : List Row) → old.now.schema ≡ schema → Shown load_session_text [] old new rows → AreListed session_shown (old.now.trees 5) rows × IsUnchanged old new
+select_lists = lists 5 (col 1 2 ∷ col 1 3 ∷ col 1 4 ∷ col 1 5 ∷ col 1 6 ∷ col 1 7 ∷ col 1 0 ∷ []) load_session_text _ load_session_is load_session_plain (λ db. refl)

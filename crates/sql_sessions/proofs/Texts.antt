@@ -8,15 +8,15 @@ use Rattle.sqlite.specs.Query.{Query}
 use Rattle.sqlite.specs.Source.TheVariants.{Values}
 use Rattle.sqlite.specs.Compile.{table_defined_by}
 use Rattle.sqlite.specs.Listing.{understood, reads_listing}
-use Rattle.sqlite.specs.Command.TheVariants.{InsertOr, Delete, Select}
+use Rattle.sqlite.specs.Command.TheVariants.{InsertOr, Delete, Select, CreateTable}
 use Rattle.sqlite_schema.specs.declared.command.Conflict.TheVariants.{Abort}
 use Rattle.sqlite_schema.specs.declared.command.Upsert.{Upsert}
 use Rattle.sqlite_schema.specs.declared.program.Program.{Program}
 use Rattle.sqlite.specs.Command.{Command}
 use Rattle.sqlite.specs.Collation.TheVariants.{Binary}
 use Rattle.sqlite_tied.specs.Compute.{everything}
-use Rattle.sqlite.proofs.Callers.{IsPlain, command_of}
-use Rattle.sql_base.specs.Schema.{session_text, token_text, session, token, schema}
+use Rattle.sqlite.proofs.Callers.{IsPlain, command_of, statement_of}
+use Rattle.sql_base.specs.Schema.{session_text, token_text, session, token, schema, schema_3, schema_4}
 use Rattle.sql_sessions.specs.Texts.{put_session_text, drop_session_text, load_session_text, put_token_text, drop_token_text, load_token_text}
 use Rattle.sql_base.proofs.QueryLemmas.{one_query}
 
@@ -52,6 +52,14 @@ abbrev pub load_session_command : Command
 load_session_command =
     Select (load_of 5 (col 1 1 ∷ col 1 2 ∷ col 1 3 ∷ col 1 4 ∷ col 1 5 ∷ col 1 6 ∷ col 1 7 ∷ col 1 0 ∷ []))
     (codes "id" ∷ codes "user" ∷ codes "opened" ∷ codes "seen" ∷ codes "idle" ∷ codes "max" ∷ codes "levels" ∷ codes "rowid" ∷ [])
+
+pub create_session_is : (command_of (understood schema_3 session_text) ≡ CreateTable) × (statement_of session_text (understood schema_3 session_text) ≡ session_text) × (table_defined_by session_text ≡ Ok session)
+unfolding understood everything
+create_session_is = (refl, refl, refl)
+
+pub create_session_plain : IsPlain (understood schema_3 session_text)
+unfolding understood everything
+create_session_plain = (refl, refl)
 
 pub put_session_is : command_of (understood schema put_session_text) ≡ put_session_command
 unfolding understood everything
@@ -91,6 +99,14 @@ abbrev pub load_token_command : Command
 load_token_command =
     Select (load_of 7 (col 1 1 ∷ col 1 2 ∷ col 1 3 ∷ col 1 4 ∷ col 1 5 ∷ col 1 0 ∷ []))
     (codes "key" ∷ codes "user" ∷ codes "kind" ∷ codes "expiry" ∷ codes "spent" ∷ codes "rowid" ∷ [])
+
+pub create_token_is : (command_of (understood schema_4 token_text) ≡ CreateTable) × (statement_of token_text (understood schema_4 token_text) ≡ token_text) × (table_defined_by token_text ≡ Ok token)
+unfolding understood everything
+create_token_is = (refl, refl, refl)
+
+pub create_token_plain : IsPlain (understood schema_4 token_text)
+unfolding understood everything
+create_token_plain = (refl, refl)
 
 pub put_token_is : command_of (understood schema put_token_text) ≡ put_token_command
 unfolding understood everything

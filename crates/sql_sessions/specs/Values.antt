@@ -1,7 +1,8 @@
 -- What sessions and tokens are stored as.
 use Rattle.std.specs.Prelude.{List, ℕ, [], ◌∷◌}
 use Rattle.sqlite.specs.declared.types.Value.TheVariants.{Int, Text}
-use Rattle.sqlite.specs.Order.{Row}
+use Rattle.sqlite.specs.Order.{Row, column}
+use Rattle.sqlite.specs.Tree.{rowid}
 use Rattle.keeper_rows.specs.declared.rows.SessionRow.{SessionRow}
 use Rattle.keeper_rows.specs.declared.rows.TokenRow.{TokenRow}
 
@@ -11,3 +12,10 @@ session_values row = Text row.id ∷ Int row.user ∷ Int row.opened ∷ Int row
 
 abbrev pub token_values : TokenRow → Row
 token_values row = Text row.key ∷ Int row.user ∷ Text row.kind ∷ Int row.expiry ∷ Int row.spent ∷ []
+
+-- what is shown of a stored row: its columns, and then its rowid
+abbrev pub session_shown : Row → Row
+session_shown r = column r 1 ∷ column r 2 ∷ column r 3 ∷ column r 4 ∷ column r 5 ∷ column r 6 ∷ column r 7 ∷ rowid r ∷ []
+
+abbrev pub token_shown : Row → Row
+token_shown r = column r 1 ∷ column r 2 ∷ column r 3 ∷ column r 4 ∷ column r 5 ∷ rowid r ∷ []

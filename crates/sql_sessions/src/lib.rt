@@ -3,4 +3,4 @@
 
 mod session;
 
-pub use session::{drop_session, put_session};
+pub use session::{create_sessions, drop_session, put_session, select_sessions};
