@@ -7,5 +7,6 @@ pub mod Members
 pub mod SessionLemmas
 pub mod Tells
 pub mod Texts
+pub mod TokenLemmas
 pub mod Upserts
 pub mod Writes

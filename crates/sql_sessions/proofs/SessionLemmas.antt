@@ -37,20 +37,12 @@ use Rattle.sql_sessions.proofs.Keys.{text_key, keys_apart, told_apart}
 use Rattle.sql_sessions.proofs.Members.{key, HasPut, HasDropped}
 use Rattle.sql_sessions.proofs.Tells.{tells_put, tells_drop}
 use Rattle.sql_sessions.proofs.Texts.{create_session_is, create_session_plain, load_session_is, load_session_plain, put_session_is, put_session_plain, drop_session_is, drop_session_plain}
-use Rattle.sql_sessions.proofs.Upserts.{IsText, IsUpsert, KeepsOthers}
+use Rattle.sql_sessions.proofs.Upserts.{IsText, IsUpsert, KeepsOthers, either, met}
 use Rattle.sql_sessions.proofs.Writes.{Stands, puts, drops}
 
 -- the table where it stands in the schema
 abbrev pub session_at : Table
 session_at = record session { tree = 5 }
-
-either : (b : Bool) (x : Value) → cond b x x ≡ x
-either true x = refl
-either false x = refl
-
-met : (b : Bool) → ((b && true) || false) ≡ b
-met true = refl
-met false = refl
 
 upsert : (row : SessionRow) → IsUpsert session_at row.id (drop 1 (session_values row)) 7 (col 0 10 ∷ col 0 11 ∷ col 0 12 ∷ col 0 13 ∷ col 0 14 ∷ col 0 15 ∷ [])
 unfolding unary first_key

@@ -63,6 +63,14 @@ pub and_true : (b : Bool) → (b && true) ≡ b
 and_true true = refl
 and_true false = refl
 
+pub either : (b : Bool) (x : Value) → cond b x x ≡ x
+either true x = refl
+either false x = refl
+
+pub met : (b : Bool) → ((b && true) || false) ≡ b
+met true = refl
+met false = refl
+
 -- a table whose key is the text in its first column, and the values of a row behind its key
 pub record IsUpsert (table : Table) (k : List ℕ) (rest : Row) (place : ℕ) (values : List Term) : Type 0 where
   pub params : Row
@@ -152,8 +160,8 @@ module _ (limit : Option ℕ) (keys : Keys) {table : Table} {k : List ℕ} {rest
       subst Lands (sym (ap (λ (w : Written). w.trees) (same_value written.2))) lands
 
   -- a row meets the new one exactly where it has its key
-  met : (n : ℤ) (r : Row) → Has rows r → conflicts (Some (1 ∷ [])) schema.indexes table (new_row n) r ≡ has_text k r
-  met n r has = it_is.meets n r ∙ equal_text k r (all_has _ rows r typed has)
+  met_there : (n : ℤ) (r : Row) → Has rows r → conflicts (Some (1 ∷ [])) schema.indexes table (new_row n) r ≡ has_text k r
+  met_there n r has = it_is.meets n r ∙ equal_text k r (all_has _ rows r typed has)
 
   judged : (it : Written) (n : ℤ) → Upserts task Abort (new_row n) db (upserts_of table.tree place values) (Ok it) → Lands it.trees
   judged it n h = go h.0 h.1 h.2
@@ -165,12 +173,12 @@ module _ (limit : Option ℕ) (keys : Keys) {table : Table} {k : List ℕ} {rest
       go : (found : List Row) → AreConflicts (Some (1 ∷ [])) schema.indexes table rows (new_row n) found
           → Meets task (Upserts task Abort (new_row n) db []) (new_row n) db (record { target = Some (1 ∷ []); update = Some (update_of table.tree place values) }) found (Ok it) → Lands it.trees
       go [] all m = inserted it n (λ r has. elim (cases_Bool (has_text k r)) [
-        | inl e ↦ absurd (all.complete r has (met n r has ∙ e))
+        | inl e ↦ absurd (all.complete r has (met_there n r has ∙ e))
         | inr e ↦ e
       ]) (cleared m.0 m.2)
       go (there ∷ more) all m =
           let r = all.sound there (inl refl) in
-          let same : has_text k r.0 ≡ true = sym (met n r.0 r.1) ∙ r.2 in
+          let same : has_text k r.0 ≡ true = sym (met_there n r.0 r.1) ∙ r.2 in
           let number = int_is (rowid r.0) (all_has _ rows r.0 are.numbers r.1) in
           updated it there n (id_in (rowid r.0)) (ap rowid r.3 ∙ number) r.0 r.1 number same m
 
