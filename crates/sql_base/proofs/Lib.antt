@@ -1,3 +1,4 @@
+pub mod CreateLemmas
 pub mod QueryLemmas
 pub mod StateLemmas
 pub mod TellLemmas

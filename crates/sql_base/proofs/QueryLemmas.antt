@@ -1,5 +1,5 @@
 -- What a query over one tree answers.
-use Rattle.std.proofs.Common.{◌≡◌, ◌⊎◌, inl, inr, Bool, true, false, cond, None, pos, negsuc, ℕ, List, [], ◌∷◌, ◌++◌, map, flat_map, refl, sym, ap, subst, ◌∙◌, IsPermutation}
+use Rattle.std.proofs.Common.{◌≡◌, inl, inr, Bool, true, false, cond, None, pos, negsuc, ℕ, List, [], ◌∷◌, ◌++◌, map, flat_map, refl, sym, ap, subst, ◌∙◌, IsPermutation}
 use Rattle.std.specs.List.{list_all}
 use Rattle.std.proofs.lemmas.List.Sorted.{IsPermutation-sym, IsPermutation-map}
 use Rattle.sqlite_trees.proofs.ListLemmas.{all-permutation}
@@ -7,7 +7,7 @@ use Rattle.sqlite.specs.declared.types.Value.TheVariants.{Int}
 use Rattle.sqlite.specs.Collation.TheVariants.{Binary}
 use Rattle.sqlite.specs.Order.{Row}
 use Rattle.sqlite.specs.Tree.{Trees}
-use Rattle.sqlite.specs.Term.{Term, lit, col, holds, eval_all}
+use Rattle.sqlite.specs.Term.{Term, lit, holds, eval_all}
 use Rattle.sqlite.specs.Query.{Query, Output, output, IsAnswer}
 use Rattle.sqlite_sql.specs.Query.{matches, inner, end}
 use Rattle.sqlite_rules.specs.Lists.{Has}
@@ -89,6 +89,6 @@ all_shown tree first shown db rows a =
     let q = all_query tree first shown in
     let kept : a.kept ≡ map (output q) (map (λ r. [] ∷ r ∷ []) (db tree)) = a.distinct ∙ ap (map (output q)) (a.grouped ∙ each_once (db tree)) in
     let both : map (λ (o : Output). o.1) a.kept ≡ map (λ r. eval_all shown ([] ∷ r ∷ [])) (db tree) =
-        ap (map (λ (o : Output). o.1)) kept ∙ map_map (λ (o : Output). o.1) (output q) _ ∙ map_map (λ e. (output q e).1) (λ r. [] ∷ r ∷ []) (db tree) in
+    ap (map (λ (o : Output). o.1)) kept ∙ map_map (λ (o : Output). o.1) (output q) _ ∙ map_map (λ e. (output q e).1) (λ r. [] ∷ r ∷ []) (db tree) in
     let same = IsPermutation-map (λ (o : Output). o.1) a.kept a.ordered a.same in
     subst (λ l. IsPermutation l rows) both (subst (IsPermutation (map (λ (o : Output). o.1) a.kept)) (sym a.shown) same)

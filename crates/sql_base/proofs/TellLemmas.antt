@@ -1,9 +1,9 @@
 -- What rows by their keys tell, and what a change of one row does to them.
-use Rattle.std.proofs.Common.{◌≡◌, ◌⊎◌, inl, inr, Bool, true, false, not, cond, List, [], ◌∷◌, ◌||◌, Ordering, Less, Equal, Greater, refl, sym, ap, subst, ◌∙◌, true≢false}
+use Rattle.std.proofs.Common.{◌≡◌, ◌⊎◌, inl, inr, Bool, true, false, cond, List, [], ◌∷◌, Ordering, Less, Equal, Greater, refl, sym, ap, subst, ◌∙◌, true≢false}
 use Rattle.std.specs.Prelude.{fold}
 use Rattle.std.specs.Cmp.{IsTotalOrder}
 use Rattle.std.specs.Ordering.{is_eq, is_gt, ordering_reverse}
-use Rattle.std.specs.List.{AllByRecursion, list_any}
+use Rattle.std.specs.List.{list_any}
 use Rattle.std.proofs.lemmas.Bool.{cases_Bool}
 use Rattle.std.proofs.lemmas.Cmp.{tied_itself, alike_right}
 use Rattle.keeper_rows.specs.Keys.{replace_first, insert_before, remove_first, has_key, is_past, placed, put, dropped}
@@ -260,17 +260,23 @@ module _ {R K : Type 0} {cmp : K → K → Ordering} (total : IsTotalOrder cmp) 
 
   put_rising : (row : R) (rows : List R) → IsRising cmp key rows → IsRising cmp key (put cmp key row rows) × ArePut row rows (put cmp key row rows)
   put_rising row rows up = elim (cases_Bool (list_any (Is (key row)) rows)) [
-    | inl some ↦ let it = some_has (Is (key row)) rows some in rw some (replaced_rising row rows it.0 it.1 it.2 up, record {
-      there = replaced_there row rows up;
-      has = replaced_row row rows it.0 it.1 it.2;
-      back = replaced_back row rows;
-    })
+    | inl some ↦ let it = some_has (Is (key row)) rows some in rw some (
+      replaced_rising row rows it.0 it.1 it.2 up,
+      record {
+        there = replaced_there row rows up;
+        has = replaced_row row rows it.0 it.1 it.2;
+        back = replaced_back row rows;
+      },
+    )
     | inr none ↦ let apart : (x : R) → Has rows x → Is (key row) x ≡ false = λ x h. elim (cases_Bool (Is (key row) x)) [ inl is ↦ absurd (true≢false (sym (some_from (Is (key row)) rows x h is) ∙ none)) | inr other ↦ other ] in
-    rw none (placed_rising row rows up apart, record {
-      there = λ x h. elim (has_placed row rows x h) [ inl same ↦ inl same | inr there ↦ inr (there, apart x there) ];
-      has = placed_row row rows;
-      back = λ x h other. placed_has row rows x h;
-    })
+        rw none (
+          placed_rising row rows up apart,
+          record {
+            there = λ x h. elim (has_placed row rows x h) [ inl same ↦ inl same | inr there ↦ inr (there, apart x there) ];
+            has = placed_row row rows;
+            back = λ x h other. placed_has row rows x h;
+          },
+        )
   ]
 
   pub told_put : (row : R) (old new : List R) → AreApart cmp key old → AreApart cmp key new → ArePut row old new → by_key cmp key new ≡ put cmp key row (by_key cmp key old)

@@ -1,5 +1,5 @@
 -- The tables that a database tells. A row is stored as its rowid and its columns; the column that the rowid stands for is NULL.
-use Rattle.std.specs.Prelude.{ℕ, ℤ, pos, negsuc, List, [], ◌∷◌, fold, map, Result, Ok, Err}
+use Rattle.std.specs.Prelude.{ℕ, ℤ, pos, negsuc, List, [], fold, map, Result, Ok, Err}
 use Rattle.std.specs.declared.cmp.Ordering.{Ordering}
 use Rattle.std.specs.Ordering.{nat_cmp, int_cmp}
 use Rattle.realm_data.specs.declared.realm_parts.RealmParts.{RealmParts}

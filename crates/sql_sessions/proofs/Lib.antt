@@ -1,5 +1,4 @@
 pub mod Apart
-pub mod Creates
 pub mod Deletes
 pub mod Keys
 pub mod Lists

@@ -19,7 +19,7 @@ use Rattle.sqlite_rules.specs.Lists.{Has}
 use Rattle.sqlite_rules.proofs.ProbeLemmas.{has_mapped}
 use Rattle.sql_base.specs.Schema.{schema}
 use Rattle.sql_base.proofs.QueryLemmas.{all_query, all_shown, has_permuted}
-use Rattle.sql_sessions.specs.Steps.{AreListed}
+use Rattle.sql_base.specs.Steps.{AreListed}
 use Rattle.sql_sessions.proofs.Texts.{load_of}
 
 lower : (o : Ordering) → is_lt (ordering_then o Equal) ≡ is_lt o

@@ -29,9 +29,9 @@ use Rattle.sql_base.specs.Schema.{schema, schema_3, schema_4, session, session_t
 use Rattle.sql_base.specs.Told.{by_key, session_of, tables_in}
 use Rattle.sql_base.specs.Ready.{AreApart, AreNumbered, AreKept, IsReady, Changes}
 use Rattle.sql_sessions.specs.Texts.{put_session_text, drop_session_text, load_session_text}
-use Rattle.sql_sessions.specs.Steps.{IsBegun, IsMade, AreListed}
+use Rattle.sql_base.specs.Steps.{IsBegun, IsMade, AreListed}
 use Rattle.sql_sessions.specs.Values.{session_values, session_shown}
-use Rattle.sql_sessions.proofs.Creates.{creates}
+use Rattle.sql_base.proofs.CreateLemmas.{creates}
 use Rattle.sql_sessions.proofs.Lists.{lists}
 use Rattle.sql_sessions.proofs.Keys.{text_key, keys_apart, told_apart}
 use Rattle.sql_sessions.proofs.Members.{key, HasPut, HasDropped}

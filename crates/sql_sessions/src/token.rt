@@ -7,7 +7,7 @@ ghost use Rattle.sqlite.specs.State.{HasCleanDisk, IsUnchanged, IsRolledBack, Su
 ghost use Rattle.sql_base.specs.Ready.{IsReady, Changes};
 ghost use Rattle.sql_base.specs.Told.{tables_in};
 ghost use Rattle.sql_base.specs.Schema.{schema, schema_4, schema_5};
-ghost use Rattle.sql_sessions.specs.Steps.{IsBegun, IsMade, AreListed};
+ghost use Rattle.sql_base.specs.Steps.{IsBegun, IsMade, AreListed};
 ghost use Rattle.sql_sessions.specs.Values.{token_shown};
 
 use keeper_rows::{TokenRow, Text};

@@ -13,7 +13,7 @@ use Rattle.sqlite.specs.Tree.{Trees}
 use Rattle.sqlite.specs.declared.error.Error.{Error}
 use Rattle.sqlite.proofs.Callers.{IsPlain, command_of, statement_of, runs_as}
 use Rattle.sql_base.proofs.StateLemmas.{went, same_value}
-use Rattle.sql_sessions.specs.Steps.{IsBegun, IsMade}
+use Rattle.sql_base.specs.Steps.{IsBegun, IsMade}
 
 pub creates : (before : Schema) (table : Table) (text : List ℕ) → (command_of (understood before text) ≡ CreateTable) × (statement_of text (understood before text) ≡ text) × (table_defined_by text ≡ Ok table)
     → IsPlain (understood before text) → lacks_sequence (created before table) ≡ false → (old new : State) (r : Result ℕ Error) → IsBegun before old → ExecutesInside 0 text [] old new r

@@ -1,0 +1,5 @@
+mod AccountLemmas
+mod AccountTexts
+mod NumberLemmas
+mod TableLemmas
+mod WriteLemmas
