@@ -1,8 +1,8 @@
 -- Rows that have keys of their own.
-use Rattle.std.proofs.Common.{◌≡◌, inl, inr, Bool, true, false, not, List, [], ◌∷◌, map, filter, Ordering, Less, Equal, Greater, refl, sym, ap, subst, ◌∙◌, true≢false}
+use Rattle.std.proofs.Common.{◌≡◌, inl, inr, Bool, true, false, List, [], ◌∷◌, filter, Ordering, Less, Equal, Greater, refl, sym, ap, ◌∙◌, true≢false}
 use Rattle.std.specs.Cmp.{IsTotalOrder}
 use Rattle.std.specs.Ordering.{is_eq, ordering_reverse, match_ordering}
-use Rattle.std.specs.List.{AllByRecursion, list_any}
+use Rattle.std.specs.List.{list_any}
 use Rattle.std.proofs.lemmas.Bool.{cases_Bool, or_parts}
 use Rattle.sqlite.specs.Order.{Row, value_cmp}
 use Rattle.sqlite_value.proofs.OrderLemmas.{value_cmp_total}
@@ -66,8 +66,10 @@ put_apart new (r ∷ rows) free up =
     )
     go Equal e other none later = absurd (true≢false (sym (ap is_eq e) ∙ other))
     go Greater e other none later = (
-      (turned value_cmp_total rowid (rowid new) (rowid r) ∙ other,
-      all_from _ rows (λ x h. turned value_cmp_total rowid (rowid new) (rowid x) ∙ none_has (λ y. is_eq (value_cmp (rowid y) (rowid new))) rows x none h)),
+      (
+        turned value_cmp_total rowid (rowid new) (rowid r) ∙ other,
+        all_from _ rows (λ x h. turned value_cmp_total rowid (rowid new) (rowid x) ∙ none_has (λ y. is_eq (value_cmp (rowid y) (rowid new))) rows x none h),
+      ),
       up,
     )
 

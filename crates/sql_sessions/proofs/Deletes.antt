@@ -1,16 +1,16 @@
 -- What a delete by a text key does.
-use Rattle.std.proofs.Common.{◌≡◌, inl, inr, ℕ, ◌<◌, ℤ, Bool, true, false, List, [], ◌∷◌, ◌&&◌, length, Option, None, refl, sym, ap, subst, ◌∙◌, arith, true≢false, Ok}
+use Rattle.std.proofs.Common.{◌≡◌, inl, inr, ℕ, true, List, [], ◌∷◌, Option, refl, sym, ap, subst, ◌∙◌, arith, Ok}
 use Rattle.std.specs.List.{AllByRecursion, list_all}
 use Rattle.std.specs.Ordering.{is_eq}
 use Rattle.std.proofs.lemmas.Bool.{cases_Bool}
-use Rattle.sqlite.specs.declared.types.Value.TheVariants.{Null, Int, Text}
+use Rattle.sqlite.specs.declared.types.Value.TheVariants.{Null, Text}
 use Rattle.sqlite.specs.Order.{Row, value_cmp}
 use Rattle.sqlite_value.proofs.OrderLemmas.{value_cmp_total}
 use Rattle.sqlite.specs.Table.{Table}
 use Rattle.sqlite.specs.Term.{Term, col, holds}
 use Rattle.sqlite.specs.Tree.{Trees}
 use Rattle.sqlite.specs.Program.{overlay}
-use Rattle.sqlite_trees.specs.Tree.{rowid, has_rowid, without_rowid}
+use Rattle.sqlite_trees.specs.Tree.{rowid, without_rowid}
 use Rattle.sqlite_schema.specs.declared.schema.Keys.{Keys}
 use Rattle.sqlite.specs.Rows.{Written, Task, Deletes}
 use Rattle.sqlite_rules.specs.declared.error.Rowids.TheVariants.{Given}
@@ -66,10 +66,10 @@ module _ (limit : Option ℕ) (keys : Keys) (table : Table) (k : List ℕ) (db :
       let id = id_in (rowid r) in
       let number = int_is (rowid r) (all_has _ rows r are.numbers at.1) in
       let ids : AllByRecursion (λ m. m ≡ id) (ids_of found) = all_from _ (ids_of found) (λ m h.
-          let x = has_mapped (λ (y : Row). id_in (rowid y)) found m h in
-          let from = all.sound x.0 x.1 in
-          let one : from.0 ≡ r = tie from.0 r from.1 at.1 (sym (passes from.0 from.1) ∙ from.2) same in
-          x.2 ∙ ap (λ (y : Row). id_in (rowid y)) from.3 ∙ ap (λ (y : Row). id_in (rowid y)) one) in
+      let x = has_mapped (λ (y : Row). id_in (rowid y)) found m h in
+      let from = all.sound x.0 x.1 in
+      let one : from.0 ≡ r = tie from.0 r from.1 at.1 (sym (passes from.0 from.1) ∙ from.2) same in
+      x.2 ∙ ap (λ (y : Row). id_in (rowid y)) from.3 ∙ ap (λ (y : Row). id_in (rowid y)) one) in
       let left : without_all rows (ids_of found) ≡ without_rowid id rows = without_same id (ids_of found) rows ids (λ x _ _. omega arith) in
       subst (HasDropped k rows) (sym left) (drop_one k [] rows are keyed r at.1 id number same)
 

@@ -1,10 +1,9 @@
 -- What a sound database says of a table whose key is the text in its first column.
-use Rattle.std.proofs.Common.{◌≡◌, inl, inr, ℕ, ℤ, Bool, true, false, not, ◌&&◌, ◌||◌, None, Some, List, [], ◌∷◌, map, drop, Ordering, Less, Equal, Greater, refl, sym, ap, subst, ◌∙◌, true≢false}
+use Rattle.std.proofs.Common.{◌≡◌, ℕ, Bool, true, false, not, ◌&&◌, None, Some, List, [], ◌∷◌, map, drop, Ordering, Less, Equal, Greater, refl, sym, ap, ◌∙◌, true≢false}
 use Rattle.std.specs.Ordering.{is_eq, is_ne}
-use Rattle.std.specs.List.{AllByRecursion, list_any}
-use Rattle.std.proofs.lemmas.Bool.{cases_Bool, not-true}
+use Rattle.std.specs.List.{AllByRecursion}
+use Rattle.std.proofs.lemmas.Bool.{not-true}
 use Rattle.keeper_rows.specs.Applied.{text_cmp}
-use Rattle.sqlite.specs.declared.types.Value.{Value}
 use Rattle.sqlite.specs.declared.types.Value.TheVariants.{Null, Int, Real, Text, Blob}
 use Rattle.sqlite.specs.Collation.TheVariants.{Binary}
 use Rattle.sqlite.specs.Kind.TheVariants as kind
@@ -65,7 +64,7 @@ keys_apart rows are typed unique = apart_weaker _ _ rows each are.apart
     each a b ha hb other =
         let text = all_has _ rows b typed hb in
         let lone : (agree plain (1 ∷ []) a (1 ∷ []) b && differ (rowid a) (rowid b)) ≡ false =
-            none_has (λ x. agree plain (1 ∷ []) x (1 ∷ []) b && differ (rowid x) (rowid b)) rows a (not-true _ (all_has _ rows b unique hb)) ha in
+        none_has (λ x. agree plain (1 ∷ []) x (1 ∷ []) b && differ (rowid x) (rowid b)) rows a (not-true _ (all_has _ rows b unique hb)) ha in
         let apart = left_false (agree plain (1 ∷ []) a (1 ∷ []) b) _ lone (differ_number a b (all_has _ rows a are.numbers ha) (all_has _ rows b are.numbers hb) other) in
         let one : equal Binary (key a) (key b) ≡ false = sym (and_true _) ∙ apart in
         let same : equal Binary (key a) (Text text.0) ≡ has_text text.0 a = equal_text text.0 a (all_has _ rows a typed ha) in

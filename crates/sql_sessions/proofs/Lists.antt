@@ -1,17 +1,16 @@
 -- What a query of all rows answers.
-use Rattle.std.proofs.Common.{◌≡◌, inl, inr, ◌<◌, ◌+◌, ℕ, zero, suc, Bool, true, false, List, [], ◌∷◌, map, flat_map, length, None, Ok, Err, Ordering, Less, Equal, Greater, refl, sym, ap, subst, ◌∙◌, arith, IsPermutation, get_or}
+use Rattle.std.proofs.Common.{◌≡◌, inl, inr, ◌<◌, ◌+◌, ℕ, zero, suc, false, List, [], ◌∷◌, map, length, Ordering, Less, Equal, Greater, refl, sym, ap, subst, ◌∙◌, arith, IsPermutation, get_or}
 use Rattle.std.specs.Prelude.{IsSorted, IsSortedByKey}
 use Rattle.std.specs.Ordering.{is_lt, ordering_then}
 use Rattle.sqlite.specs.declared.types.Value.TheVariants.{Null}
-use Rattle.sqlite.specs.declared.error.Error.{Error}
 use Rattle.sqlite.specs.Command.TheVariants.{Select}
 use Rattle.sqlite.specs.Effect.{Answers}
 use Rattle.sqlite.specs.Listing.{understood, reads_listing}
 use Rattle.sqlite.specs.Order.{Row, column, value_cmp}
 use Rattle.sqlite.specs.Program.{overlay}
-use Rattle.sqlite.specs.Query.{Output, output, output_cmp, IsAnswer}
+use Rattle.sqlite.specs.Query.{Output, output, IsAnswer}
 use Rattle.sqlite.specs.State.{State, Shown, ShowsRows, IsUnchanged}
-use Rattle.sqlite.specs.Term.{Term, Env, col, eval_all}
+use Rattle.sqlite.specs.Term.{Term, col, eval_all}
 use Rattle.sqlite.specs.Tree.{Trees}
 use Rattle.sqlite.specs.Clock.{timed}
 use Rattle.sqlite.proofs.Callers.{IsPlain, command_of, reads_as}

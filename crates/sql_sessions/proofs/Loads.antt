@@ -1,20 +1,18 @@
 -- What is known of a table whose rows were read.
-use Rattle.std.proofs.Common.{◌≡◌, inl, inr, ℕ, zero, suc, ◌+◌, ◌<◌, ℤ, Bool, true, false, List, [], ◌∷◌, map, length, get_or, Ordering, Less, Equal, Greater, refl, sym, ap, subst, ◌∙◌, arith, true≢false, IsPermutation}
+use Rattle.std.proofs.Common.{◌≡◌, ℕ, suc, ◌+◌, Bool, true, false, List, [], ◌∷◌, map, length, get_or, Ordering, Less, refl, sym, ap, subst, ◌∙◌, arith, IsPermutation}
 use Rattle.std.specs.Cmp.{IsTotalOrder}
-use Rattle.std.specs.Ordering.{is_eq, int_cmp}
-use Rattle.std.specs.List.{AllByRecursion, AllAdjacentBelow, IsDistinct}
-use Rattle.std.proofs.lemmas.Cmp.{nat_list_cmp_total, int_cmp_total}
+use Rattle.std.specs.Ordering.{is_eq}
+use Rattle.std.specs.List.{AllAdjacentBelow, IsDistinct}
+use Rattle.std.proofs.lemmas.Cmp.{nat_list_cmp_total}
 use Rattle.std.proofs.lemmas.List.Sorted.{IsPermutation-sym, IsPermutation-map}
 use Rattle.std.proofs.lemmas.Map.Keys.{IsDistinct-IsPermutation}
 use Rattle.keeper_rows.specs.Applied.{text_cmp}
-use Rattle.sqlite.specs.declared.types.Value.{Value}
 use Rattle.sqlite.specs.declared.types.Value.TheVariants.{Int}
 use Rattle.sqlite.specs.Order.{Row, column, value_cmp}
 use Rattle.sqlite_value.proofs.OrderLemmas.{value_cmp_total, value_cmp-Int}
 use Rattle.sqlite_trees.specs.Tree.{rowid, IsAscending}
 use Rattle.sqlite_trees.specs.View.{is_int}
 use Rattle.sqlite_trees.proofs.ListLemmas.{ascending-map, ascending_from_map, ascending_weaker, all_of, all-map, all_from_map, all-permutation}
-use Rattle.sqlite_rules.specs.Lists.{Has}
 use Rattle.sqlite_rules.proofs.ListLemmas.{all_has, all_from}
 use Rattle.sql_base.specs.Ready.{AreApart, AreNumbered}
 use Rattle.sql_base.specs.Steps.{AreListed}
@@ -48,8 +46,8 @@ module _ {R K : Type 0} {cmp : K → K → Ordering} (total : IsTotalOrder cmp) 
   rising_from_next (x ∷ y ∷ xs) next =
       let first : cmp (key x) (key y) ≡ Less = next 0 x (omega arith) in
       let later = rising_from_next (y ∷ xs) (λ k d within.
-          let one : suc k + 1 ≡ suc (k + 1) = omega arith in
-          subst (λ n. cmp (key (get_or (y ∷ xs) k d)) (key (get_or (x ∷ y ∷ xs) n d)) ≡ Less) one (next (suc k) d (omega (arith, within)))) in
+      let one : suc k + 1 ≡ suc (k + 1) = omega arith in
+      subst (λ n. cmp (key (get_or (y ∷ xs) k d)) (key (get_or (x ∷ y ∷ xs) n d)) ≡ Less) one (next (suc k) d (omega (arith, within)))) in
       ((first, all_from _ xs (λ z h. total.trans (key x) (key y) (key z) first (all_has _ xs z later.0 h))), later)
 
   pub apart_from_rising : (xs : List R) → IsRising cmp key xs → AreApart cmp key xs

@@ -1,8 +1,8 @@
 -- What a change of one row does to the rows of a table whose key is the text in its first column.
-use Rattle.std.proofs.Common.{◌≡◌, ◌⊎◌, inl, inr, ℕ, ◌<◌, ℤ, Bool, true, false, not, List, [], ◌∷◌, map, filter, length, Ordering, Less, Equal, Greater, refl, sym, ap, subst, ◌∙◌, arith, true≢false}
+use Rattle.std.proofs.Common.{◌≡◌, ◌⊎◌, inl, inr, ℕ, ◌<◌, ℤ, Bool, true, false, not, List, [], ◌∷◌, length, Ordering, Less, Equal, Greater, refl, sym, ap, ◌∙◌, arith, true≢false}
 use Rattle.std.specs.Ordering.{is_eq, int_cmp}
 use Rattle.std.specs.List.{AllByRecursion, list_any}
-use Rattle.std.proofs.lemmas.Bool.{cases_Bool, not-true, and_parts}
+use Rattle.std.proofs.lemmas.Bool.{cases_Bool}
 use Rattle.std.proofs.lemmas.Bool.Decides.{nat_tests}
 use Rattle.std.proofs.lemmas.Cmp.{tied_itself, tied_back}
 use Rattle.std.proofs.lemmas.Int.{ints}
@@ -13,11 +13,11 @@ use Rattle.sqlite_value.proofs.OrderLemmas.{value_cmp_total, value_cmp-Int}
 use Rattle.sqlite_trees.specs.Tree.{rowid, has_rowid, put_row, without_rowid}
 use Rattle.sqlite_trees.specs.View.{is_int}
 use Rattle.sqlite_rules.specs.Lists.{Has}
-use Rattle.sqlite_rules.specs.Edit.{id_in, is_taken, are_fresh, without_all, put_all}
-use Rattle.sqlite_rules.proofs.ListLemmas.{all_has, all_from, has_filtered, has_kept, some_has}
+use Rattle.sqlite_rules.specs.Edit.{id_in, is_taken, without_all, put_all}
+use Rattle.sqlite_rules.proofs.ListLemmas.{has_filtered, has_kept, some_has}
 use Rattle.sqlite_rules.proofs.TableLemmas.{int_is, has_put, put_has, put_all_keeps}
 use Rattle.sql_base.specs.Ready.{AreApart, AreNumbered}
-use Rattle.sql_sessions.proofs.Apart.{turned, none_has, apart_same, put_numbered, kept_numbered}
+use Rattle.sql_sessions.proofs.Apart.{apart_same, put_numbered, kept_numbered}
 
 -- the first column, which is the key
 abbrev pub key : Row → Value
@@ -126,8 +126,8 @@ module _ (k : List ℕ) (rest : Row) (rows : List Row) (are : AreNumbered rows) 
     same_key : (x : Row) → Has rows x → has_text k x ≡ false → has_rowid id x ≡ false
     same_key x h other = elim (cases_Bool (has_rowid id x)) [
       | inl also ↦
-        let same : x ≡ r = apart_same value_cmp_total rowid rows x r are.apart h there (ap (λ v. is_eq (value_cmp (rowid x) v)) is ∙ also) in
-        absurd (true≢false (sym has ∙ ap (has_text k) (sym same) ∙ other))
+          let same : x ≡ r = apart_same value_cmp_total rowid rows x r are.apart h there (ap (λ v. is_eq (value_cmp (rowid x) v)) is ∙ also) in
+          absurd (true≢false (sym has ∙ ap (has_text k) (sym same) ∙ other))
       | inr apart ↦ apart
     ]
 

@@ -1,13 +1,11 @@
 -- What the texts on tokens do.
-use Rattle.std.proofs.Common.{◌≡◌, ◌⊎◌, inl, inr, ℕ, ℤ, Bool, true, false, cond, ◌&&◌, ◌||◌, not, List, [], ◌∷◌, map, drop, codes, slice_get, Some, None, Ok, Err, Result, IfOk, OnOk, refl, sym, ap, subst, ◌∙◌, arith}
+use Rattle.std.proofs.Common.{◌≡◌, ℕ, List, [], ◌∷◌, map, drop, codes, Ok, Err, Result, IfOk, OnOk, refl, sym, subst, arith}
 use Rattle.std.specs.List.{AllByRecursion}
 use Rattle.std.proofs.lemmas.Bool.{and_parts}
 use Rattle.keeper_rows.specs.Applied.{text_cmp, token_key, put_row, drop_row}
-use Rattle.keeper_rows.specs.Keys.{put, dropped}
 use Rattle.keeper_rows.specs.declared.change.Row.TheVariants as row_of
 use Rattle.keeper_rows.specs.declared.change.RowKey.TheVariants as key_of
 use Rattle.keeper_rows.specs.declared.rows.TokenRow.{TokenRow}
-use Rattle.sqlite.specs.declared.types.Value.{Value}
 use Rattle.sqlite.specs.declared.types.Value.TheVariants.{Null, Int, Text}
 use Rattle.sqlite.specs.declared.error.Error.{Error}
 use Rattle.sqlite.specs.Collation.TheVariants.{Binary}
@@ -16,12 +14,10 @@ use Rattle.sqlite.specs.Ops.{unary}
 use Rattle.sqlite.specs.Order.{Row, value_cmp}
 use Rattle.sqlite.specs.State.{State, Shown, IsUnchanged, ExecutesInside}
 use Rattle.sqlite.specs.Table.{Table}
-use Rattle.sqlite.specs.Term.{Term, lit, col}
+use Rattle.sqlite.specs.Term.{col}
 use Rattle.sqlite.specs.Tree.{Trees}
 use Rattle.sqlite_value.specs.Keys.{first_key}
-use Rattle.sqlite_sql.specs.Ops.{binary}
 use Rattle.sqlite_schema.specs.declared.schema.Constraint.TheVariants.{Datatype, NotNull, Unique}
-use Rattle.sqlite_schema.specs.declared.schema.Schema.{Schema}
 use Rattle.sqlite_schema.specs.Rules.{equal}
 use Rattle.sqlite_catalog.specs.Listing.{IsSound}
 use Rattle.sqlite_rules.proofs.ListLemmas.{all_has, all_from}
@@ -36,11 +32,11 @@ use Rattle.sql_sessions.proofs.Loads.{keys_differ, rows_told, rows_numbered}
 use Rattle.sql_base.proofs.CreateLemmas.{creates}
 use Rattle.sql_sessions.proofs.Lists.{lists}
 use Rattle.sql_sessions.proofs.Keys.{text_key, keys_apart, told_apart}
-use Rattle.sql_sessions.proofs.Members.{key, HasPut, HasDropped}
+use Rattle.sql_sessions.proofs.Members.{key}
 use Rattle.sql_sessions.proofs.Tells.{tells_put, tells_drop}
 use Rattle.sql_sessions.proofs.Texts.{create_token_is, create_token_plain, load_token_is, load_token_plain, put_token_is, put_token_plain, drop_token_is, drop_token_plain}
 use Rattle.sql_sessions.proofs.Upserts.{IsText, IsUpsert, KeepsOthers, either, met}
-use Rattle.sql_sessions.proofs.Writes.{Stands, puts, drops}
+use Rattle.sql_sessions.proofs.Writes.{puts, drops}
 
 -- the table where it stands in the schema
 abbrev pub token_at : Table

@@ -1,5 +1,5 @@
 -- What an upsert by a text key does.
-use Rattle.std.proofs.Common.{◌≡◌, ◌≢◌, ◌⊎◌, inl, inr, ℕ, ◌<◌, ℤ, Bool, true, false, not, cond, List, [], ◌∷◌, ◌++◌, map, drop, length, Option, Some, None, Ok, Err, Result, ◌&&◌, ◌||◌, refl, sym, ap, subst, ◌∙◌, arith, true≢false}
+use Rattle.std.proofs.Common.{◌≡◌, ◌≢◌, inl, inr, ℕ, ◌<◌, ℤ, Bool, true, false, cond, List, [], ◌∷◌, ◌++◌, map, drop, length, Option, Some, None, Ok, ◌&&◌, ◌||◌, refl, sym, ap, subst, ◌∙◌, arith}
 use Rattle.std.specs.List.{AllByRecursion, list_all}
 use Rattle.std.specs.Ordering.{is_eq}
 use Rattle.std.proofs.lemmas.Bool.{cases_Bool, not-true, and_parts}
@@ -8,7 +8,7 @@ use Rattle.sqlite_value.proofs.OrderLemmas.{value_cmp_total, value_cmp-Text}
 use Rattle.sqlite.specs.declared.types.Value.{Value}
 use Rattle.sqlite.specs.declared.types.Value.TheVariants.{Null, Int, Text}
 use Rattle.sqlite.specs.Collation.TheVariants.{Binary}
-use Rattle.sqlite.specs.Order.{Row, column, value_cmp}
+use Rattle.sqlite.specs.Order.{Row, value_cmp}
 use Rattle.sqlite.specs.Cast.{cast_row}
 use Rattle.sqlite.specs.Table.{Table}
 use Rattle.sqlite.specs.Term.{Term, col, holds, eval_all}
@@ -22,7 +22,7 @@ use Rattle.sqlite_schema.specs.declared.command.Conflict.TheVariants.{Abort}
 use Rattle.sqlite_schema.specs.declared.schema.Keys.{Keys}
 use Rattle.sqlite.specs.Rows.{Written, Then, Task, Puts, Resolves, Judged, Tries, Upserts, TriesEach, nothing, joined, higher, rowids_for, Clears, Meets, Updates, shown}
 use Rattle.sqlite_rules.specs.declared.error.Rowids.TheVariants.{Given}
-use Rattle.sqlite_rules.specs.Edit.{with_rowid, edit_of, edited, id_in, is_taken, next_rowid, without_all, put_all, Applies}
+use Rattle.sqlite_rules.specs.Edit.{with_rowid, edit_of, id_in, is_taken, next_rowid, without_all, put_all, Applies}
 use Rattle.sqlite_rules.specs.Keys.{AreConflicts, conflicts}
 use Rattle.sqlite_rules.specs.Calls.{ids_of}
 use Rattle.sqlite_rules.specs.Lists.{Has}
@@ -136,27 +136,27 @@ module _ (limit : Option ℕ) (keys : Keys) {table : Table} {k : List ℕ} {rest
       let applies : Applies schema keys db edit written.0 = one_step schema keys db written.0 edit refl written.1 in
       let new = new_row id in
       let passes : (x : Row) → Has rows x → list_all (holds (given ∷ x ∷ [])) test ≡ has_rowid id x = λ x h.
-          it_is.tests (Int id) n x ∙ and_true _ ∙ equal_number id x (all_has _ rows x are.numbers h) in
+      it_is.tests (Int id) n x ∙ and_true _ ∙ equal_number id x (all_has _ rows x are.numbers h) in
       let is_one : (x : Row) → Has rows x → has_rowid id x ≡ true → x ≡ r = λ x h also.
-          apart_same value_cmp_total rowid rows x r are.apart h has (ap (λ v. is_eq (value_cmp (rowid x) v)) number ∙ also) in
+      apart_same value_cmp_total rowid rows x r are.apart h has (ap (λ v. is_eq (value_cmp (rowid x) v)) number ∙ also) in
       let shown_is : (x : Row) → Has found.0 x → x ≡ Int id ∷ new = λ x in_found.
-          let from = all.sound x in_found in
-          let one : from.0 ≡ r = is_one from.0 from.1 (sym (passes from.0 from.1) ∙ from.2) in
-          from.3 ∙ it_is.writes (Int id) n from.0 ∙ ap (λ y. rowid y ∷ rowid y ∷ key y ∷ rest) one ∙ ap (λ v. v ∷ v ∷ key r ∷ rest) number
-          ∙ ap (λ v. Int id ∷ Int id ∷ v ∷ rest) (text_is k r (all_has _ rows r typed has) same) in
+      let from = all.sound x in_found in
+      let one : from.0 ≡ r = is_one from.0 from.1 (sym (passes from.0 from.1) ∙ from.2) in
+      from.3 ∙ it_is.writes (Int id) n from.0 ∙ ap (λ y. rowid y ∷ rowid y ∷ key y ∷ rest) one ∙ ap (λ v. v ∷ v ∷ key r ∷ rest) number
+      ∙ ap (λ v. Int id ∷ Int id ∷ v ∷ rest) (text_is k r (all_has _ rows r typed has) same) in
       let ids : AllByRecursion (λ m. m ≡ id) (ids_of found.0) = all_from _ (ids_of found.0) (λ m h.
-          let x = has_mapped (λ (y : Row). id_in (rowid y)) found.0 m h in x.2 ∙ ap (λ (y : Row). id_in (rowid y)) (shown_is x.0 x.1)) in
+      let x = has_mapped (λ (y : Row). id_in (rowid y)) found.0 m h in x.2 ∙ ap (λ (y : Row). id_in (rowid y)) (shown_is x.0 x.1)) in
       let news : AllByRecursion (λ y. y ≡ new) (map (λ (s : Row). cast_row table (drop 1 s)) found.0) = all_from _ _ (λ y h.
-          let x = has_mapped (λ (s : Row). cast_row table (drop 1 s)) found.0 y h in x.2 ∙ ap (λ (s : Row). cast_row table (drop 1 s)) (shown_is x.0 x.1) ∙ it_is.casts id) in
+      let x = has_mapped (λ (s : Row). cast_row table (drop 1 s)) found.0 y h in x.2 ∙ ap (λ (s : Row). cast_row table (drop 1 s)) (shown_is x.0 x.1) ∙ it_is.casts id) in
       let there_is = all.complete r has (passes r has ∙ number_has id r number) in
       let count = some_in (λ (s : Row). cast_row table (drop 1 s)) found.0 _ there_is in
       let left : without_all rows (ids_of found.0) ≡ without_rowid id rows = without_same id (ids_of found.0) rows ids (λ x _ _. count.0) in
       let put = put_same new (map (λ (s : Row). cast_row table (drop 1 s)) found.0) (without_all rows (ids_of found.0)) news count.1 in
       let is : written.0 table.tree ≡ put_row new (without_rowid id rows) =
-          applies.rows ∙ ap (put_all (without_all rows (ids_of found.0))) (given_numbers (without_all rows (ids_of found.0)) (map (λ (s : Row). cast_row table (drop 1 s)) found.0))
-          ∙ put ∙ ap (put_row new) left in
+      applies.rows ∙ ap (put_all (without_all rows (ids_of found.0))) (given_numbers (without_all rows (ids_of found.0)) (map (λ (s : Row). cast_row table (drop 1 s)) found.0))
+      ∙ put ∙ ap (put_row new) left in
       let lands : Lands written.0 =
-          record { put = subst (HasPut k rest rows) (sym is) (put_over k rest rows are keyed r has id number same); others = applies.tables } in
+      record { put = subst (HasPut k rest rows) (sym is) (put_over k rest rows are keyed r has id number same); others = applies.tables } in
       subst Lands (sym (ap (λ (w : Written). w.trees) (same_value written.2))) lands
 
   -- a row meets the new one exactly where it has its key

@@ -1,9 +1,9 @@
 -- What a statement on a table with a text key makes of the database.
-use Rattle.std.proofs.Common.{◌≡◌, ◌⊎◌, inl, inr, ℕ, ◌/◌, ℤ, List, [], ◌∷◌, length, slice_get, Option, Some, None, Ok, Err, Result, refl, sym, ap, subst, ◌∙◌}
+use Rattle.std.proofs.Common.{◌≡◌, ℕ, ◌/◌, ℤ, List, [], ◌∷◌, length, slice_get, Option, Some, None, Ok, sym, ap, subst, ◌∙◌}
 use Rattle.std.specs.Prelude.{Bool, false, if◌then◌else◌, MatchBool}
 use Rattle.std.specs.Ordering.{is_lt, int_cmp}
 use Rattle.std.specs.List.{AllByRecursion}
-use Rattle.sqlite.specs.declared.types.Value.TheVariants.{Null, Int, Text}
+use Rattle.sqlite.specs.declared.types.Value.TheVariants.{Null, Text}
 use Rattle.sqlite.specs.Command.TheVariants.{InsertOr, Delete}
 use Rattle.sqlite.specs.Source.TheVariants.{Values}
 use Rattle.sqlite.specs.Order.{Row, value_cmp}
@@ -52,7 +52,7 @@ module _ {table : Table} (at : ℕ) (listed : slice_get schema.tables at ≡ Som
       let text = statement_of sql (understood schema sql) in
       let does = subst (λ s. Does old.step_limit (mode_of old) params (record old.now { schema = s }) text None command (Ok (w.tally, new.now))) has w.changed in
       let On : Option Table → Type 0 = λ found.
-          AtPlace (λ t. OnRows (record { limit = old.step_limit; keys = (mode_of old).keys; schema = schema; table = t; params = params }) (mode_of old) None command db) found (Ok (w.tally, new.now)) in
+      AtPlace (λ t. OnRows (record { limit = old.step_limit; keys = (mode_of old).keys; schema = schema; table = t; params = params }) (mode_of old) None command db) found (Ok (w.tally, new.now)) in
       let done = went (subst On listed does) in
       let now = ap (λ (p : Tally × Database). p.1) (same_value (went (went done.2).2).2) in
       let given = went done.1 in
@@ -61,9 +61,10 @@ module _ {table : Table} (at : ℕ) (listed : slice_get schema.tables at ≡ Som
       let counted = went tried.2 in
       let lands = each old.step_limit (mode_of old).keys it_is db are typed keyed given.0 (count_of counter.0) tried.0 (given.1.1 ∙ source) tried.1 in
       let trees : done.0.trees ≡ tried.0.0.trees = ap (λ (it : Written). it.trees) (same_value counted.2) ∙ counts_nothing (record { limit = old.step_limit; keys = (mode_of old).keys; schema = schema; table = table; params = params }) _ counter.0 tried.0.1 counted.0 it_is.uncounted counted.1 in
-      let is_now : new.now.trees ≡ tried.0.0.trees = ap (λ (d : Database). d.trees) now ∙ trees in
-      (record { schema_is = ap (λ (d : Database). d.schema) now; sound = w.sound; others = subst (KeepsOthers table db) (sym is_now) lands.others },
-      subst (λ (t : Trees). HasPut k rest (db table.tree) (t table.tree)) (sym is_now) lands.put)
+      let is_now : new.now.trees ≡ tried.0.0.trees = ap (λ (d : Database). d.trees) now ∙ trees in (
+        record { schema_is = ap (λ (d : Database). d.schema) now; sound = w.sound; others = subst (KeepsOthers table db) (sym is_now) lands.others },
+        subst (λ (t : Trees). HasPut k rest (db table.tree) (t table.tree)) (sym is_now) lands.put,
+      )
 
   pub drops : (k : List ℕ) (low : (db : Trees) → overlay db [] table.tree ≡ db table.tree) (sql : List ℕ) → command_of (understood schema sql) ≡ Delete at (drop_of table.tree)
       → IsPlain (understood schema sql) → Executes sql (Text k ∷ []) old new (Ok count)
@@ -76,10 +77,11 @@ module _ {table : Table} (at : ℕ) (listed : slice_get schema.tables at ≡ Som
       let text = statement_of sql (understood schema sql) in
       let does = subst (λ s. Does old.step_limit (mode_of old) params (record old.now { schema = s }) text None command (Ok (w.tally, new.now))) has w.changed in
       let On : Option Table → Type 0 = λ found.
-          AtPlace (λ t. OnRows (record { limit = old.step_limit; keys = (mode_of old).keys; schema = schema; table = t; params = params }) (mode_of old) None command db) found (Ok (w.tally, new.now)) in
+      AtPlace (λ t. OnRows (record { limit = old.step_limit; keys = (mode_of old).keys; schema = schema; table = t; params = params }) (mode_of old) None command db) found (Ok (w.tally, new.now)) in
       let done = went (subst On listed does) in
       let now = ap (λ (p : Tally × Database). p.1) (same_value (went (went done.2).2).2) in
       let leaves = deleted old.step_limit (mode_of old).keys table k db (low db) are typed keyed done.0 done.1 in
-      let is_now : new.now.trees ≡ done.0.trees = ap (λ (d : Database). d.trees) now in
-      (record { schema_is = ap (λ (d : Database). d.schema) now; sound = w.sound; others = subst (KeepsOthers table db) (sym is_now) leaves.others },
-      subst (λ (t : Trees). HasDropped k (db table.tree) (t table.tree)) (sym is_now) leaves.dropped)
+      let is_now : new.now.trees ≡ done.0.trees = ap (λ (d : Database). d.trees) now in (
+        record { schema_is = ap (λ (d : Database). d.schema) now; sound = w.sound; others = subst (KeepsOthers table db) (sym is_now) leaves.others },
+        subst (λ (t : Trees). HasDropped k (db table.tree) (t table.tree)) (sym is_now) leaves.dropped,
+      )

@@ -10,10 +10,14 @@ use Rattle.sql_base.specs.Ready.{AreApart, AreNumbered}
 use Rattle.sql_base.specs.Told.{session_of, token_of}
 use Rattle.keeper_rows.specs.Applied.{text_cmp, session_key, token_key}
 
+-- each has a lower key than the next
+abbrev pub Rises : {R K : Type 0} → (K → K → Ordering) → (R → K) → List R → Type 0
+Rises cmp key rows = AllAdjacentBelow (λ a b. cmp (key a) (key b) ≡ Less) rows (length rows)
+
 -- each row as it is told; each has a lower key than the next, and the rowids, which stand at one place, differ
 pub record IsRead {R K : Type 0} (cmp : K → K → Ordering) (key : R → K) (told_by : Row → R) (at : ℕ) (rows : List Row) (told : List R) : Type 0 where
   pub is : told ≡ map told_by rows
-  pub rising : AllAdjacentBelow (λ a b. cmp (key a) (key b) ≡ Less) told (length told)
+  pub rising : Rises cmp key told
   pub rowids : List ℤ
   pub numbers : map Int rowids ≡ map (λ row. column row at) rows
   pub apart : AreApart int_cmp (λ n. n) rowids

@@ -1,11 +1,10 @@
-ghost use Rattle.std.specs.Prelude.{◌≡◌, IfOk, IsTrue, Ok, length, map};
-ghost use Rattle.std.specs.declared.cmp.Ordering.TheVariants.{Less};
-ghost use Rattle.std.specs.List.{AllAdjacentBelow};
+ghost use Rattle.std.specs.Prelude.{◌≡◌, IfOk, IsTrue, Ok, map};
 ghost use Rattle.std.specs.Ordering.{int_cmp};
 ghost use Rattle.sqlite.specs.Order.{Row as Values, column};
 ghost use Rattle.sqlite.specs.declared.types.Value.TheVariants.{Int};
+ghost use Rattle.sqlite.specs.declared.types.Value.TheVariants as values;
 ghost use Rattle.sql_base.specs.Ready.{AreApart};
-ghost use Rattle.sql_sessions.specs.Read.{IsRead};
+ghost use Rattle.sql_sessions.specs.Read.{IsRead, Rises};
 
 use keeper_rows::{Keyed, Text};
 use login_base::{Memory, Sequence};
@@ -33,7 +32,7 @@ fn of_memory<T>(made: Result<T, Memory>) -> Result<T, Fault>
 
 /// The text in a column.
 pub(crate) fn text_at(alloc: Global, row: &Row, at: usize) -> Result<Text, Fault>
-    ensures told { IfOk result (λ text. column row.now at ≡ Rattle.sqlite.specs.declared.types.Value.TheVariants.Text text) }
+    ensures told { IfOk result (λ text. column row.now at ≡ values.Text text) }
 {
     let text: String = row.get(at)?;
     of_memory(Text::new(alloc, text.as_str()))
@@ -61,7 +60,7 @@ fn read_numbers(alloc: Global, rows: &[Row], at: usize) -> Result<Sequence<i64>,
 
 /// Whether each row has a lower key than the next.
 fn rise<R: Keyed>(rows: &[R]) -> bool
-    ensures rising { IsTrue result → AllAdjacentBelow (λ a b. R.Key.cmp (R.key a) (R.key b) ≡ Less) rows.now (length rows.now) }
+    ensures rising { IsTrue result → Rises R.Key.cmp R.key rows.now }
 {
     for i in 1..rows.len() {
         if rows[i - 1].key().cmp(rows[i].key()) != Ordering::Less {
@@ -73,7 +72,7 @@ fn rise<R: Keyed>(rows: &[R]) -> bool
 
 /// Whether each number is lower than the next.
 fn numbers_rise(numbers: &[i64]) -> bool
-    ensures rising { IsTrue result → AllAdjacentBelow (λ a b. int_cmp a b ≡ Less) numbers.now (length numbers.now) }
+    ensures rising { IsTrue result → Rises int_cmp (λ n. n) numbers.now }
 {
     for i in 1..numbers.len() {
         if numbers[i - 1].cmp(&numbers[i]) != Ordering::Less {

@@ -26,7 +26,7 @@ pub fn create_sessions<S: Alter>(tx: &mut Transaction<'_, S>) -> Result<(), Faul
         (IsMade schema_3 schema_4 (state S.Store tx.old.conn.now) (state S.Store tx.new.conn.now)) }
     ensures err { HasCleanDisk (state S.Store tx.new.conn.now) → OnErr result
         (IsUnchanged (state S.Store tx.old.conn.now) (state S.Store tx.new.conn.now)
-            ⊎ IsRolledBack (state S.Store tx.old.conn.now) (state S.Store tx.new.conn.now)) }
+        ⊎ IsRolledBack (state S.Store tx.old.conn.now) (state S.Store tx.new.conn.now)) }
     ensures survives { Survives (state S.Store tx.old.conn.now) (state S.Store tx.new.conn.now) (λ _. ⊥) }
 {
     tx.execute(
@@ -95,10 +95,10 @@ pub fn put_session<S: Alter>(tx: &mut Transaction<'_, S>, row: &SessionRow) -> R
     ensures same_reference { tx.new.conn.ghost_name ≡ tx.old.conn.ghost_name }
     ensures ok { HasCleanDisk (state S.Store tx.new.conn.now) → OnOk result
         (Changes (state S.Store tx.old.conn.now) (state S.Store tx.new.conn.now)
-            (put_row (rows.Session row.now) (tables_in (state S.Store tx.old.conn.now).now.trees))) }
+        (put_row (rows.Session row.now) (tables_in (state S.Store tx.old.conn.now).now.trees))) }
     ensures err { HasCleanDisk (state S.Store tx.new.conn.now) → OnErr result
         (IsUnchanged (state S.Store tx.old.conn.now) (state S.Store tx.new.conn.now)
-            ⊎ IsRolledBack (state S.Store tx.old.conn.now) (state S.Store tx.new.conn.now)) }
+        ⊎ IsRolledBack (state S.Store tx.old.conn.now) (state S.Store tx.new.conn.now)) }
     ensures survives { Survives (state S.Store tx.old.conn.now) (state S.Store tx.new.conn.now) (λ _. ⊥) }
 {
     tx.execute(
@@ -122,10 +122,10 @@ pub fn drop_session<S: Alter>(tx: &mut Transaction<'_, S>, id: &Text) -> Result<
     ensures same_reference { tx.new.conn.ghost_name ≡ tx.old.conn.ghost_name }
     ensures ok { HasCleanDisk (state S.Store tx.new.conn.now) → OnOk result
         (Changes (state S.Store tx.old.conn.now) (state S.Store tx.new.conn.now)
-            (drop_row (keys.Session id.now) (tables_in (state S.Store tx.old.conn.now).now.trees))) }
+        (drop_row (keys.Session id.now) (tables_in (state S.Store tx.old.conn.now).now.trees))) }
     ensures err { HasCleanDisk (state S.Store tx.new.conn.now) → OnErr result
         (IsUnchanged (state S.Store tx.old.conn.now) (state S.Store tx.new.conn.now)
-            ⊎ IsRolledBack (state S.Store tx.old.conn.now) (state S.Store tx.new.conn.now)) }
+        ⊎ IsRolledBack (state S.Store tx.old.conn.now) (state S.Store tx.new.conn.now)) }
     ensures survives { Survives (state S.Store tx.old.conn.now) (state S.Store tx.new.conn.now) (λ _. ⊥) }
 {
     tx.execute("DELETE FROM session WHERE id = ?1", params![id.as_str()])?;

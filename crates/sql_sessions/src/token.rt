@@ -26,7 +26,7 @@ pub fn create_tokens<S: Alter>(tx: &mut Transaction<'_, S>) -> Result<(), Fault>
         (IsMade schema_4 schema_5 (state S.Store tx.old.conn.now) (state S.Store tx.new.conn.now)) }
     ensures err { HasCleanDisk (state S.Store tx.new.conn.now) → OnErr result
         (IsUnchanged (state S.Store tx.old.conn.now) (state S.Store tx.new.conn.now)
-            ⊎ IsRolledBack (state S.Store tx.old.conn.now) (state S.Store tx.new.conn.now)) }
+        ⊎ IsRolledBack (state S.Store tx.old.conn.now) (state S.Store tx.new.conn.now)) }
     ensures survives { Survives (state S.Store tx.old.conn.now) (state S.Store tx.new.conn.now) (λ _. ⊥) }
 {
     tx.execute(
@@ -93,10 +93,10 @@ pub fn put_token<S: Alter>(tx: &mut Transaction<'_, S>, row: &TokenRow) -> Resul
     ensures same_reference { tx.new.conn.ghost_name ≡ tx.old.conn.ghost_name }
     ensures ok { HasCleanDisk (state S.Store tx.new.conn.now) → OnOk result
         (Changes (state S.Store tx.old.conn.now) (state S.Store tx.new.conn.now)
-            (put_row (rows.Token row.now) (tables_in (state S.Store tx.old.conn.now).now.trees))) }
+        (put_row (rows.Token row.now) (tables_in (state S.Store tx.old.conn.now).now.trees))) }
     ensures err { HasCleanDisk (state S.Store tx.new.conn.now) → OnErr result
         (IsUnchanged (state S.Store tx.old.conn.now) (state S.Store tx.new.conn.now)
-            ⊎ IsRolledBack (state S.Store tx.old.conn.now) (state S.Store tx.new.conn.now)) }
+        ⊎ IsRolledBack (state S.Store tx.old.conn.now) (state S.Store tx.new.conn.now)) }
     ensures survives { Survives (state S.Store tx.old.conn.now) (state S.Store tx.new.conn.now) (λ _. ⊥) }
 {
     tx.execute(
@@ -118,10 +118,10 @@ pub fn drop_token<S: Alter>(tx: &mut Transaction<'_, S>, key: &Text) -> Result<(
     ensures same_reference { tx.new.conn.ghost_name ≡ tx.old.conn.ghost_name }
     ensures ok { HasCleanDisk (state S.Store tx.new.conn.now) → OnOk result
         (Changes (state S.Store tx.old.conn.now) (state S.Store tx.new.conn.now)
-            (drop_row (keys.Token key.now) (tables_in (state S.Store tx.old.conn.now).now.trees))) }
+        (drop_row (keys.Token key.now) (tables_in (state S.Store tx.old.conn.now).now.trees))) }
     ensures err { HasCleanDisk (state S.Store tx.new.conn.now) → OnErr result
         (IsUnchanged (state S.Store tx.old.conn.now) (state S.Store tx.new.conn.now)
-            ⊎ IsRolledBack (state S.Store tx.old.conn.now) (state S.Store tx.new.conn.now)) }
+        ⊎ IsRolledBack (state S.Store tx.old.conn.now) (state S.Store tx.new.conn.now)) }
     ensures survives { Survives (state S.Store tx.old.conn.now) (state S.Store tx.new.conn.now) (λ _. ⊥) }
 {
     tx.execute("DELETE FROM token WHERE key = ?1", params![key.as_str()])?;

@@ -18,6 +18,18 @@ returns-clause-ok g c clean =
     let idle : FitsSigned w64 row.idle = search rules in
     let max : FitsSigned w64 row.max = search rules in
     put_changes old new row (Ok c.in_ok-execute.field-0) ready (rw (
-    c.params-to_sql.ensures, c.params-to_sql-2.ensures, c.params-to_sql-3.ensures, c.params-to_sql-4.ensures, c.params-to_sql-5.ensures, c.params-to_sql-6.ensures, c.params-to_sql-7.ensures,
-    c.as_str.ensures.text, c.as_str-2.ensures.text,
-    to_z-of_z w64 row.user user, to_z-of_z w64 row.opened opened, to_z-of_z w64 row.seen seen, to_z-of_z w64 row.idle idle, to_z-of_z w64 row.max max) at (c.in_ok-execute.ensures.runs clean ready.inside))
+      c.params-to_sql.ensures,
+      c.params-to_sql-2.ensures,
+      c.params-to_sql-3.ensures,
+      c.params-to_sql-4.ensures,
+      c.params-to_sql-5.ensures,
+      c.params-to_sql-6.ensures,
+      c.params-to_sql-7.ensures,
+      c.as_str.ensures.text,
+      c.as_str-2.ensures.text,
+      to_z-of_z w64 row.user user,
+      to_z-of_z w64 row.opened opened,
+      to_z-of_z w64 row.seen seen,
+      to_z-of_z w64 row.idle idle,
+      to_z-of_z w64 row.max max,
+    ) at (c.in_ok-execute.ensures.runs clean ready.inside))

@@ -16,6 +16,14 @@ returns-clause-ok g c clean =
     let expiry : FitsSigned w64 row.expiry = search rules in
     let spent : FitsSigned w64 row.spent = search rules in
     put_changes old new row (Ok c.in_ok-execute.field-0) ready (rw (
-    c.params-to_sql.ensures, c.params-to_sql-2.ensures, c.params-to_sql-3.ensures, c.params-to_sql-4.ensures, c.params-to_sql-5.ensures,
-    c.as_str.ensures.text, c.as_str-2.ensures.text,
-    to_z-of_z w64 row.user user, to_z-of_z w64 row.expiry expiry, to_z-of_z w64 row.spent spent) at (c.in_ok-execute.ensures.runs clean ready.inside))
+      c.params-to_sql.ensures,
+      c.params-to_sql-2.ensures,
+      c.params-to_sql-3.ensures,
+      c.params-to_sql-4.ensures,
+      c.params-to_sql-5.ensures,
+      c.as_str.ensures.text,
+      c.as_str-2.ensures.text,
+      to_z-of_z w64 row.user user,
+      to_z-of_z w64 row.expiry expiry,
+      to_z-of_z w64 row.spent spent,
+    ) at (c.in_ok-execute.ensures.runs clean ready.inside))
