@@ -1,0 +1,12 @@
+mod AccountLemmas
+mod AccountTexts
+mod AgreeLemmas
+mod MarkLemmas
+mod MarkTexts
+mod NumberLemmas
+mod RealmLemmas
+mod RealmTexts
+mod SecretLemmas
+mod SecretTexts
+mod TableLemmas
+mod WriteLemmas

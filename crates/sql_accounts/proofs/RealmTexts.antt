@@ -1,0 +1,94 @@
+-- What the texts on realms mean.
+use Rattle.std.proofs.Common.{◌≡◌, Ok, refl, List, [], ◌∷◌, Some, codes, false, ℕ}
+use Rattle.sqlite.specs.declared.types.Value.TheVariants.{Null}
+use Rattle.sqlite.specs.Collation.TheVariants.{Binary}
+use Rattle.sqlite.specs.Table.{Table}
+use Rattle.sqlite.specs.Term.{Term, lit, col, op2}
+use Rattle.sqlite_sql.specs.declared.ops.BinaryOp.TheVariants.{Compare}
+use Rattle.sqlite_sql.specs.declared.ops.CompareOp.TheVariants.{Eq}
+use Rattle.sqlite.specs.Source.TheVariants.{Values}
+use Rattle.sqlite.specs.Change.{created}
+use Rattle.sqlite.specs.Compile.{table_defined_by}
+use Rattle.sqlite.specs.Does.{lacks_sequence}
+use Rattle.sqlite.specs.Listing.{understood, reads_listing}
+use Rattle.sqlite.specs.Command.{Command}
+use Rattle.sqlite.specs.Command.TheVariants.{InsertOr, Delete, Select, CreateTable}
+use Rattle.sqlite_schema.specs.declared.command.Conflict.TheVariants.{Abort}
+use Rattle.sqlite_tied.specs.Compute.{everything}
+use Rattle.sqlite.proofs.Callers.{IsPlain, command_of, statement_of}
+use Rattle.sql_base.specs.Schema.{realm, realm_text, no_schema, schema}
+use Rattle.sql_base.proofs.QueryLemmas.{one_query, all_query}
+use Rattle.sql_accounts.proofs.NumberLemmas.{rowid_test}
+
+abbrev pub put_text : List ℕ
+put_text =
+    codes "INSERT INTO realm (version, text) VALUES (?1, ?2) ON CONFLICT (version) DO UPDATE SET text = excluded.text"
+
+abbrev pub drop_text : List ℕ
+drop_text = codes "DELETE FROM realm WHERE version = ?1"
+
+abbrev pub load_text : List ℕ
+load_text = codes "SELECT version, text FROM realm ORDER BY version"
+
+-- as the schema has it
+abbrev pub realm_table : Table
+realm_table = record realm { tree = 0 }
+
+abbrev pub put_terms : List Term
+put_terms = col 0 0 ∷ lit Null ∷ col 0 1 ∷ []
+
+abbrev pub put_test : List Term
+put_test = op2 (Compare Eq Binary) (col 1 0) (col 0 2) ∷ []
+
+abbrev pub put_wanted : List Term
+put_wanted = col 1 0 ∷ col 1 0 ∷ lit Null ∷ col 0 5 ∷ []
+
+abbrev pub put_command : Command
+put_command =
+    InsertOr 0 Abort (Values put_terms 3) (record { target = Some (0 ∷ []); update = Some (record { lets = []; body = one_query 0 put_test put_wanted }) } ∷ [])
+
+abbrev pub drop_command : Command
+drop_command = Delete 0 (record { lets = []; body = one_query 0 rowid_test (col 1 0 ∷ []) })
+
+abbrev pub load_terms : List Term
+load_terms = col 1 0 ∷ col 1 2 ∷ []
+
+abbrev pub load_command : Command
+load_command =
+    Select (record { lets = []; body = all_query 0 (col 1 0) load_terms })
+    (codes "version" ∷ codes "text" ∷ [])
+
+pub create_is : (command_of (understood no_schema realm_text) ≡ CreateTable) × (statement_of realm_text (understood no_schema realm_text) ≡ realm_text) × (table_defined_by realm_text ≡ Ok realm)
+unfolding understood everything
+create_is = (refl, refl, refl)
+
+pub create_plain : IsPlain (understood no_schema realm_text)
+unfolding understood everything
+create_plain = (refl, refl)
+
+pub create_lacks : lacks_sequence (created no_schema realm) ≡ false
+create_lacks = refl
+
+pub put_is : command_of (understood schema put_text) ≡ put_command
+unfolding understood everything
+put_is = refl
+
+pub drop_is : command_of (understood schema drop_text) ≡ drop_command
+unfolding understood everything
+drop_is = refl
+
+pub load_is : (command_of (understood schema load_text) ≡ load_command) × (reads_listing schema load_text ≡ false)
+unfolding understood everything
+load_is = (refl, refl)
+
+pub put_plain : IsPlain (understood schema put_text)
+unfolding understood everything
+put_plain = (refl, refl)
+
+pub drop_plain : IsPlain (understood schema drop_text)
+unfolding understood everything
+drop_plain = (refl, refl)
+
+pub load_plain : IsPlain (understood schema load_text)
+unfolding understood everything
+load_plain = (refl, refl)

@@ -1,0 +1,19 @@
+use Rattle.std.proofs.Common.{arith}
+use Rattle.sqlite.specs.State.{HasCleanDisk}
+use Rattle.sqlite.specs.Held.{state}
+use Rattle.sql_accounts.proofs.MarkLemmas.{select_lists}
+use Rattle.sql_accounts.proofs.marks.select_marks.Goals as goal
+
+pub returns-clause-ok : goal.returns-clause-ok
+returns-clause-ok g c clean =
+    let old = state g.S.Store c.args.tx.now.conn.now in
+    let new = state g.S.Store c.query_all.new.self.conn.now in
+    let early : HasCleanDisk old = omega (arith, c.query_all.ensures.survives.clean) in
+    (select_lists old new c.in_ok-query_all.field-0.items (c.requires.begun early).schema_is (c.in_ok-query_all.ensures.ok clean)).0
+
+pub returns-clause-same : goal.returns-clause-same
+returns-clause-same g c clean =
+    let old = state g.S.Store c.args.tx.now.conn.now in
+    let new = state g.S.Store c.query_all.new.self.conn.now in
+    let early : HasCleanDisk old = omega (arith, c.query_all.ensures.survives.clean) in
+    (select_lists old new c.in_ok-query_all.field-0.items (c.requires.begun early).schema_is (c.in_ok-query_all.ensures.ok clean)).1

@@ -1,0 +1,12 @@
+pub mod Apart
+pub mod Deletes
+pub mod Keys
+pub mod Lists
+pub mod Loads
+pub mod Members
+pub mod SessionLemmas
+pub mod Tells
+pub mod Texts
+pub mod TokenLemmas
+pub mod Upserts
+pub mod Writes
