@@ -1,3 +1,4 @@
+pub mod AccountPlaces
 pub mod InForce
 pub mod NoteLemmas
 pub mod PlacesLemmas

@@ -1,10 +1,16 @@
 -- The accounts.
 use Rattle.std.specs.Prelude.{ℕ, Bool, true, false, List, Option, Some, None, ◌==◌, unwrap_or, if◌then◌else◌}
+use Rattle.std.specs.List.{filter}
 use Rattle.std.specs.Str.{bytes_eq}
 use Rattle.login_base.specs.declared.id.UserId.{UserId}
 use Rattle.facts.specs.declared.fact.Fact.{Fact}
 use Rattle.facts.specs.declared.fact.Fact.TheVariants as events
 use Rattle.facts.specs.Places.{last_of}
+use Rattle.facts.specs.Subjects.{subject_of, is_account}
+
+-- the facts about accounts
+abbrev pub account_facts : List Fact → List Fact
+account_facts facts = filter (λ fact. is_account (subject_of fact)) facts
 
 -- the user whom a fact puts under this name
 abbrev pub put_as : List ℕ → Fact → Option UserId

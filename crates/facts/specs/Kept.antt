@@ -1,11 +1,13 @@
 -- A list of facts, and the facts that wait to join it.
-use Rattle.std.specs.Prelude.{◌≡◌, ℕ, List, [], ◌∷◌, Option}
+use Rattle.std.specs.Prelude.{◌≡◌, ℕ, ◌+◌, List, [], ◌∷◌, length, Option, if◌then◌else◌}
 use Rattle.realm_data.specs.declared.realm_parts.RealmParts.{RealmParts}
 use Rattle.facts.specs.declared.fact.Fact.{Fact}
 use Rattle.facts.specs.declared.note.Note.{Note}
-use Rattle.facts.specs.Realms.{current_realm, last_version}
+use Rattle.facts.specs.declared.chronicle.Waiting.{Waiting}
+use Rattle.facts.specs.Places.{last_of}
+use Rattle.facts.specs.Realms.{realm_put, current_realm, last_version}
 use Rattle.facts.specs.Serials.{last_tab_serial, last_stored_serial, last_known_serial, known_serial_after}
-use Rattle.facts.specs.Subjects.{subject_of}
+use Rattle.facts.specs.Subjects.{subject_of, is_account}
 
 pub record Kept : Type 0 where
   pub list : List Fact
@@ -34,3 +36,19 @@ AreNotes notes facts = notes ≡ notes_of 0 facts
 -- so are those of the facts that wait
 abbrev pub AreNotesBehind : List Note → List Fact → List Fact → Type 0
 AreNotesBehind notes facts waiting = notes ≡ notes_of (last_known_serial facts) waiting
+
+-- the places of the facts about accounts, where so many facts stand before these
+unfoldable pub account_places : ℕ → List Fact → List ℕ
+account_places before [] = []
+account_places before (fact ∷ facts) =
+    if is_account (subject_of fact) then before ∷ account_places (before + 1) facts
+    else account_places (before + 1) facts
+
+abbrev pub AreAccounts : List ℕ → List Fact → Type 0
+AreAccounts places facts = places ≡ account_places 0 facts
+
+-- what is kept beside the facts that wait to join a list
+pub record IsAwaited (list : List Fact) (waiting : Waiting) : Type 0 where
+  pub notes : AreNotesBehind waiting.notes.items list waiting.facts.items
+  pub accounts : waiting.accounts.items ≡ account_places (length list) waiting.facts.items
+  pub realm : waiting.realm ≡ last_of realm_put waiting.facts.items

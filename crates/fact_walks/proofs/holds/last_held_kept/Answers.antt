@@ -1,6 +1,6 @@
 use Rattle.std.proofs.Common.{refl, Some, None, arith}
-use Rattle.fact_scans.proofs.Backwards.{found_back, missed_back}
-use Rattle.fact_scans.proofs.scan.last_held_kept.Goals as goal
+use Rattle.fact_walks.proofs.Backwards.{found_back, missed_back}
+use Rattle.fact_walks.proofs.holds.last_held_kept.Goals as goal
 
 pub returns-in-Some : goal.returns-in-Some
 returns-in-Some g c =

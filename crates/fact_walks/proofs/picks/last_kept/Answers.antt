@@ -1,6 +1,6 @@
 use Rattle.std.proofs.Common.{sym, ◌∙◌, arith}
-use Rattle.fact_scans.proofs.Backwards.{found_back, missed_back}
-use Rattle.fact_scans.proofs.scan.last_kept.Goals as goal
+use Rattle.fact_walks.proofs.Backwards.{found_back, missed_back}
+use Rattle.fact_walks.proofs.picks.last_kept.Goals as goal
 
 pub returns-then-is_some : goal.returns-then-is_some
 returns-then-is_some g c =

@@ -2,7 +2,7 @@ use Rattle.std.proofs.Common.{◌≡◌, take, vec_len}
 use Rattle.std.specs.Prelude.{fold}
 use Rattle.facts.specs.Kept.{notes_of}
 use Rattle.facts.specs.Serials.{known_serial_after}
-use Rattle.facts.proofs.chronicle.notes.Given as goal
+use Rattle.facts.proofs.chronicle.note.Given as goal
 
 abbrev pub invariant-loop-fact : goal.invariant-loop-fact
 invariant-loop-fact l =

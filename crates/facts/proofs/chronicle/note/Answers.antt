@@ -1,10 +1,10 @@
 use Rattle.std.proofs.Common.{◌+◌, ℕ, refl, sym, ap, ◌∙◌}
 use Rattle.facts.proofs.NoteLemmas.{no_notes, noted}
 use Rattle.facts.proofs.PlacesLemmas.{got}
-use Rattle.facts.proofs.chronicle.notes.Goals as goal
+use Rattle.facts.proofs.chronicle.note.Goals as goal
 
 pub loop-fact-init : goal.loop-fact-init
-loop-fact-init c = (refl, c.new-notes.ensures.items ∙ sym (no_notes c.args.known), c.new-notes.ensures.len)
+loop-fact-init c = (refl, c.requires.empty ∙ sym (no_notes c.args.known), c.requires.len)
 
 pub loop-fact-preserved : goal.loop-fact-preserved
 loop-fact-preserved c =

@@ -1,11 +1,11 @@
 use Rattle.std.proofs.Common.{◌≡◌, ◌≤◌, take, length}
 use Rattle.facts.specs.Places.{last_of}
-use Rattle.fact_scans.proofs.scan.last_kept.Given as goal
+use Rattle.fact_walks.proofs.holds.last_held_kept.Given as goal
 
 abbrev pub invariant-loop-end : goal.invariant-loop-end
 invariant-loop-end g l = record {
   within : l.end ≤ length l.chronicle.list;
-  later : last_of (g.P.Pick.pick l.pick) l.chronicle.list ≡ last_of (g.P.Pick.pick l.pick) (take l.end l.chronicle.list);
+  later : last_of (g.P.Hold.held l.hold) l.chronicle.list ≡ last_of (g.P.Hold.held l.hold) (take l.end l.chronicle.list);
 }
 
 abbrev pub decreases-loop-end : goal.decreases-loop-end

@@ -1,6 +1,6 @@
 use Rattle.std.proofs.Common.{sym}
 use Rattle.facts.proofs.PlacesLemmas.{fold-more-by}
-use Rattle.fact_scans.proofs.scan.fold_kept.Goals as goal
+use Rattle.fact_walks.proofs.folds.fold_kept.Goals as goal
 
 pub loop-i-preserved : goal.loop-i-preserved
 loop-i-preserved g c =

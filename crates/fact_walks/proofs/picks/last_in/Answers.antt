@@ -1,6 +1,6 @@
 use Rattle.std.proofs.Common.{sym}
 use Rattle.facts.proofs.PlacesLemmas.{got, last_of-more}
-use Rattle.fact_scans.proofs.scan.last_in.Goals as goal
+use Rattle.fact_walks.proofs.picks.last_in.Goals as goal
 
 pub loop-fact-preserved : goal.loop-fact-preserved
 loop-fact-preserved g c =
