@@ -1,7 +1,5 @@
-pub mod Backwards
 pub mod Counting
 pub mod EvidenceLemmas
 pub mod PendingLemmas
 pub mod SpentLemmas
 pub mod TokenLemmas
-pub mod Unread

@@ -8,7 +8,7 @@ use Rattle.facts.specs.declared.subject.Subject.{Subject}
 use Rattle.facts.specs.Spent.{step_spent}
 use Rattle.facts.specs.Subjects.{subject_of, is_of_secret}
 use Rattle.fact_scans.specs.About.{of_steps}
-use Rattle.fact_scans.proofs.Unread.{unread}
+use Rattle.fact_walks.proofs.Unread.{unread}
 
 one_more : (facts : List Fact) (i : ℕ) (fact : Fact) → slice_get facts i ≡ Some fact → take (i + 1) facts ≡ take i facts ++ fact ∷ []
 one_more facts i fact h = take_more facts i fact (slice_get_within facts i fact h) ∙ ap (λ x. take i facts ++ x ∷ []) (get_or_from_slice_get facts i fact fact h)

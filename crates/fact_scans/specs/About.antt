@@ -11,6 +11,7 @@ use Rattle.asks.specs.declared.admin.TokenAction.{TokenAction}
 use Rattle.facts.specs.declared.fact.Fact.{Fact}
 use Rattle.facts.specs.declared.fact.Fact.TheVariants as events
 use Rattle.facts.specs.declared.subject.Subject.{Subject}
+use Rattle.facts.specs.declared.subject.Subject.TheVariants as subjects
 use Rattle.facts.specs.Accounts.{put_as, name_put, roles_put, disabled_by}
 use Rattle.facts.specs.Moments.{used_by}
 use Rattle.facts.specs.Realms as realms
@@ -28,6 +29,11 @@ other_id : (a b : Id) → (a.serial == b.serial) ≡ false → same_id a b ≡ f
 other_id a b h = rw h refl
 
 -- ---- accounts
+
+-- what isn't about an account isn't about the user's
+pub of_none : (user : UserId) (subject : Subject) → is_account subject ≡ false → is_of_user user subject ≡ false
+of_none user (subjects.User serial) h = absurd cc
+of_none user subject h = refl
 
 pub of_name : (name : List ℕ) (fact : Fact) → is_account (subject_of fact) ≡ false → put_as name fact ≡ None
 of_name name (events.UserPut user other roles) h = absurd cc

@@ -2,7 +2,7 @@ ghost use Rattle.std.specs.Prelude.{◌≡◌};
 ghost use Rattle.std.specs.Option.{option_copied};
 ghost use Rattle.facts.specs.Accounts.{account_named, name_of, roles_of, is_disabled};
 
-use crate::scan::{Pick, last_by, last_held};
+use fact_walks::{AccountHold, AccountPick, Pick, last_by_account, last_held_by_account};
 use facts::{Fact, Facts, Hold, Subject};
 use login_base::{Name, Sequence, Steps, UserId};
 use std::sync::ledger::Ledger;
@@ -38,6 +38,12 @@ impl<'a> Pick for UserPutAs<'a> {
     ghost only = { λ p. of_name p.name.now };
 }
 
+impl<'a> AccountPick for UserPutAs<'a> {
+    ghost use Rattle.fact_scans.specs.About.{of_name};
+
+    ghost only_of_accounts = { λ p. of_name p.name.now };
+}
+
 /// The account of a name.
 #[tactic(auto, unfolding(facts::specs::Accounts::account_named))]
 pub fn account_named<L: Ledger>(
@@ -47,7 +53,7 @@ pub fn account_named<L: Ledger>(
 ) -> Option<UserId>
     ensures value { result ≡ account_named name.now facts.now }
 {
-    last_by(facts, &UserPutAs { name }, steps)
+    last_by_account(facts, &UserPutAs { name }, steps)
 }
 
 /// Finds the name that a user is put under.
@@ -81,6 +87,13 @@ impl Hold for NamePut {
     ghost only = { λ p. of_users_name p.user };
 }
 
+impl AccountHold for NamePut {
+    ghost use Rattle.facts.specs.Subjects.{subject_of};
+    ghost use Rattle.fact_scans.specs.About.{of_none, of_users_name};
+
+    ghost only_of_accounts = { λ p fact h. of_users_name p.user fact (of_none p.user (subject_of fact) h) };
+}
+
 /// The name of a user.
 #[tactic(auto, unfolding(facts::specs::Accounts::name_of))]
 pub fn name_of<'a, L: Ledger>(
@@ -90,7 +103,7 @@ pub fn name_of<'a, L: Ledger>(
 ) -> Option<&'a Name>
     ensures value { option_copied result ≡ name_of user facts.now }
 {
-    last_held(facts, &NamePut { user }, steps)
+    last_held_by_account(facts, &NamePut { user }, steps)
 }
 
 /// Finds the roles that a user is put with.
@@ -124,6 +137,13 @@ impl Hold for RolesPut {
     ghost only = { λ p. of_roles p.user };
 }
 
+impl AccountHold for RolesPut {
+    ghost use Rattle.facts.specs.Subjects.{subject_of};
+    ghost use Rattle.fact_scans.specs.About.{of_none, of_roles};
+
+    ghost only_of_accounts = { λ p fact h. of_roles p.user fact (of_none p.user (subject_of fact) h) };
+}
+
 /// The roles of a user.
 #[tactic(auto, unfolding(facts::specs::Accounts::roles_of))]
 pub fn roles_of<'a, L: Ledger>(
@@ -133,7 +153,7 @@ pub fn roles_of<'a, L: Ledger>(
 ) -> Option<&'a Sequence<Name>>
     ensures value { option_copied result ≡ roles_of user facts.now }
 {
-    last_held(facts, &RolesPut { user }, steps)
+    last_held_by_account(facts, &RolesPut { user }, steps)
 }
 
 /// Picks whether a user is disabled or enabled.
@@ -168,10 +188,17 @@ impl Pick for DisabledBy {
     ghost only = { λ p. of_disabling p.user };
 }
 
+impl AccountPick for DisabledBy {
+    ghost use Rattle.facts.specs.Subjects.{subject_of};
+    ghost use Rattle.fact_scans.specs.About.{of_none, of_disabling};
+
+    ghost only_of_accounts = { λ p fact h. of_disabling p.user fact (of_none p.user (subject_of fact) h) };
+}
+
 /// Whether a user is disabled: the last fact that disables or enables it disables it.
 #[tactic(auto, unfolding(facts::specs::Accounts::is_disabled))]
 pub fn is_disabled<L: Ledger>(facts: &Facts<'_>, user: UserId, steps: &mut Steps<L>) -> bool
     ensures value { result ≡ is_disabled user facts.now }
 {
-    last_by(facts, &DisabledBy { user }, steps).unwrap_or(false)
+    last_by_account(facts, &DisabledBy { user }, steps).unwrap_or(false)
 }

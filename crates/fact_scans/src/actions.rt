@@ -3,7 +3,7 @@ ghost use Rattle.std.specs.Prelude.{find};
 ghost use Rattle.facts.specs.Actions.{first_pending, in_order};
 ghost use Rattle.fact_scans.specs.Carrying.{nothing_pending, is_in, with_action};
 
-use crate::scan::{FoldAbout, fold_by};
+use fact_walks::{FoldAbout, fold_by};
 use facts::{Action, Fact, Facts, Fold, Subject};
 use login_base::{Steps, UserId};
 use std::sync::ledger::Ledger;

@@ -2,7 +2,7 @@ ghost use Rattle.std.specs.Prelude.{◌≡◌};
 ghost use Rattle.facts.specs.Evidence.{is_by, has_evidence};
 ghost use Rattle.fact_scans.specs.Counting.{nothing, some_counts, with_kind, without_kind, is_own, is_foreign};
 
-use crate::scan::{FoldAbout, fold_kept};
+use fact_walks::{FoldAbout, fold_kept};
 use facts::{Fact, Facts, Fold, SecretKind, Subject, fold_in};
 use login_base::{Name, Steps, TabKey, UserId, same_id};
 use std::sync::ledger::Ledger;

@@ -1,7 +1,7 @@
 ghost use Rattle.std.specs.Prelude.{◌≡◌};
 ghost use Rattle.facts.specs.Moments.{last_used_moment};
 
-use crate::scan::{Pick, last_by};
+use fact_walks::{Pick, last_by};
 use facts::{Fact, Facts, Subject};
 use login_base::{Moment, Steps};
 use std::sync::ledger::Ledger;

@@ -1,7 +1,7 @@
 ghost use Rattle.std.specs.Prelude.{◌≡◌};
 ghost use Rattle.facts.specs.Secrets.{kept_password, password_of};
 
-use crate::scan::{Pick, last_by};
+use fact_walks::{AccountPick, Pick, last_by_account};
 use facts::{Fact, Facts, Secret, SecretKind, Subject, UserPassword};
 use login_base::{Steps, UserId};
 use std::sync::ledger::Ledger;
@@ -55,6 +55,13 @@ impl Pick for PasswordSet {
     ghost only = { λ p. of_password p.user };
 }
 
+impl AccountPick for PasswordSet {
+    ghost use Rattle.facts.specs.Subjects.{subject_of};
+    ghost use Rattle.fact_scans.specs.About.{of_none, of_password};
+
+    ghost only_of_accounts = { λ p fact h. of_password p.user fact (of_none p.user (subject_of fact) h) };
+}
+
 /// The password that a user has.
 #[tactic(auto, unfolding(facts::specs::Secrets::password_of))]
 pub fn password_of<L: Ledger>(
@@ -64,7 +71,7 @@ pub fn password_of<L: Ledger>(
 ) -> Option<UserPassword>
     ensures value { result ≡ password_of user facts.now }
 {
-    match last_by(facts, &PasswordSet { user }, steps) {
+    match last_by_account(facts, &PasswordSet { user }, steps) {
         Some(kept) => kept,
         None => None,
     }

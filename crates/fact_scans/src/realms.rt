@@ -2,7 +2,7 @@ ghost use Rattle.std.specs.Prelude.{◌≡◌};
 ghost use Rattle.std.specs.Option.{option_copied};
 ghost use Rattle.facts.specs.Realms.{last_version, realm_of, current_realm};
 
-use crate::scan::last_held;
+use fact_walks::last_held;
 use facts::{
     Fact, Facts, Hold, Realm, RealmPut, Subject, Version, fold_in, last_held_in, newer_held,
 };

@@ -2,7 +2,7 @@ ghost use Rattle.std.specs.Prelude.{◌≡◌, ◌<◌, ◌++◌, length, option
 ghost use Rattle.std.specs.List.{flat_map};
 ghost use Rattle.facts.specs.Spent.{step_spent, spent_steps, codes_spent};
 
-use crate::scan::{FoldAbout, fold_by};
+use fact_walks::{FoldAbout, fold_by};
 use facts::{Chronicle, Fact, Facts, Fold, Subject};
 use login_base::{Memory, Sequence, Steps};
 use std::alloc::Global;

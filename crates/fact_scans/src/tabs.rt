@@ -2,8 +2,8 @@ ghost use Rattle.std.specs.Prelude.{◌≡◌, Some, fold, if◌then◌else◌};
 ghost use Rattle.facts.specs.Tabs.{tab_after, tab_state};
 ghost use Rattle.login_base.specs.IdText.{same_id};
 
-use crate::scan::{FoldAbout, fold_kept};
 use crate::sessions::session_after;
+use fact_walks::{FoldAbout, fold_kept};
 use facts::{Fact, Facts, Fold, Opening, Page, Subject, TabState, fold_in};
 use login_base::{RootKey, Steps, TabKey, same_id};
 use std::sync::ledger::Ledger;

@@ -1,7 +1,7 @@
 ghost use Rattle.std.specs.Prelude.{◌≡◌, nat_lt};
 ghost use Rattle.facts.specs.Tokens.{token_made, is_token_spent, tokens_made};
 
-use crate::scan::{FoldAbout, Pick, fold_by, last_by};
+use fact_walks::{FoldAbout, Pick, fold_by, last_by};
 use facts::{Fact, Facts, Fold, Subject, Token, TokenAction};
 use login_base::{Steps, TokenKey, same_id};
 use std::sync::ledger::Ledger;

@@ -1,7 +1,7 @@
 ghost use Rattle.std.specs.Prelude.{◌≡◌};
 ghost use Rattle.facts.specs.Secrets.{otp_of, recovery_of};
 
-use crate::scan::last_held;
+use fact_walks::{AccountHold, last_held_by_account};
 use facts::{Fact, Facts, Hold, Secret, SecretKind, Subject, UserOtp, UserRecovery};
 use login_base::{Steps, UserId};
 use std::sync::ledger::Ledger;
@@ -40,6 +40,13 @@ impl Hold for ChangeOf {
     ghost only = { λ c. of_change c.user c.kind };
 }
 
+impl AccountHold for ChangeOf {
+    ghost use Rattle.facts.specs.Subjects.{subject_of};
+    ghost use Rattle.fact_scans.specs.About.{of_none, of_change};
+
+    ghost only_of_accounts = { λ p fact h. of_change p.user p.kind fact (of_none p.user (subject_of fact) h) };
+}
+
 /// The secret of one-time codes that a user has.
 #[tactic(auto, unfolding(facts::specs::Secrets::otp_of))]
 pub fn otp_of<'a, L: Ledger>(
@@ -50,7 +57,7 @@ pub fn otp_of<'a, L: Ledger>(
     ensures value { result ≡ otp_of user facts.now }
 {
     let kind = SecretKind::Otp;
-    match last_held(facts, &ChangeOf { user, kind }, steps) {
+    match last_held_by_account(facts, &ChangeOf { user, kind }, steps) {
         Some(
             Fact::SecretSet {
                 serial,
@@ -75,7 +82,7 @@ pub fn recovery_of<'a, L: Ledger>(
     ensures value { result ≡ recovery_of user facts.now }
 {
     let kind = SecretKind::Recovery;
-    match last_held(facts, &ChangeOf { user, kind }, steps) {
+    match last_held_by_account(facts, &ChangeOf { user, kind }, steps) {
         Some(
             Fact::SecretSet {
                 serial,

@@ -326,11 +326,15 @@ fn add_keys(out: &mut Vec<u8>, reply: &Reply) -> Result<(), Memory>
     }
 }
 
+/// So many bytes hold most replies: their buffer needn't grow.
+const USUAL_LENGTH: usize = 256;
+
 /// The reply as one line, without its newline.
 pub fn words_of(alloc: Global, reply: &Reply) -> Result<Vec<u8>, Memory>
     ensures text { IfOk result (λ text. text.items ≡ words reply.now) }
 {
     let mut out = Vec::new(alloc);
+    out.reserve(USUAL_LENGTH)?;
     add_keys(&mut out, reply)?;
     add_what(alloc, &mut out, &reply.what)?;
     Ok(out)

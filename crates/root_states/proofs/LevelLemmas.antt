@@ -8,7 +8,7 @@ use Rattle.facts.specs.declared.fact.Fact.{Fact}
 use Rattle.facts.specs.declared.subject.Subject.{Subject}
 use Rattle.facts.specs.Levels.{level_recorded}
 use Rattle.facts.specs.Subjects.{subject_of, is_of_session}
-use Rattle.fact_scans.proofs.Unread.{unread}
+use Rattle.fact_walks.proofs.Unread.{unread}
 use Rattle.root_states.specs.About.{of_levels}
 
 one_more : (facts : List Fact) (i : ℕ) (fact : Fact) → slice_get facts i ≡ Some fact

@@ -13,7 +13,7 @@ use Rattle.facts.specs.declared.tabs.RootSession.{RootSession}
 use Rattle.facts.specs.Sessions.{session_begun, session_later, session_left, standing_sessions, outlived_sessions}
 use Rattle.facts.specs.Subjects.{subject_of, is_session, is_of_session}
 use Rattle.facts.specs.Tabs.{is_live}
-use Rattle.fact_scans.proofs.Unread.{unread}
+use Rattle.fact_walks.proofs.Unread.{unread}
 use Rattle.root_states.specs.About.{of_beginning, of_session}
 use Rattle.root_states.specs.Outlived.{outlived_id, outlived_ids}
 
