@@ -1,0 +1,5 @@
+//! A keeper of the tables of a login service in an SQLite database.
+#![tactic(auto)]
+
+mod changes;
+mod commit;
