@@ -1,1 +1,3 @@
 pub mod Committed
+pub mod Kept
+pub mod Made

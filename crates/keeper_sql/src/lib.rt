@@ -3,3 +3,6 @@
 
 mod changes;
 mod commit;
+mod keeper;
+mod making;
+mod same;
