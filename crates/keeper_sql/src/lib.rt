@@ -5,4 +5,5 @@ mod changes;
 mod commit;
 mod keeper;
 mod making;
+mod opening;
 mod same;
