@@ -1,0 +1,4 @@
+pub mod Fits
+pub mod Loads
+pub mod Read
+pub mod Values

@@ -1,0 +1,14 @@
+//! The tables of a login service, as they are loaded from an SQLite database.
+#![tactic(auto)]
+
+mod accounts;
+mod reading;
+mod secrets;
+mod sessions;
+mod stored;
+mod tokens;
+
+pub use accounts::load_accounts;
+pub use secrets::load_secrets;
+pub use sessions::load_sessions;
+pub use tokens::load_tokens;
