@@ -52,7 +52,7 @@ ints_back (v ∷ values) all = rw (← int_is v all.0, ints_back values all.1) r
 
 -- ---- lists
 
-maps_same : {X Y Z : Type 0} (f : Y → Z) (g : X → Y) (h : X → Z) → ((x : X) → f (g x) ≡ h x) → (xs : List X) → map f (map g xs) ≡ map h xs
+pub maps_same : {X Y Z : Type 0} (f : Y → Z) (g : X → Y) (h : X → Z) → ((x : X) → f (g x) ≡ h x) → (xs : List X) → map f (map g xs) ≡ map h xs
 maps_same f g h same [] = refl
 maps_same f g h same (x ∷ xs) = rw (same x, maps_same f g h same xs) refl
 
