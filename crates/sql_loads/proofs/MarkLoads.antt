@@ -1,5 +1,5 @@
 -- What is read of the marks.
-use Rattle.std.proofs.Common.{◌≡◌, ◌+◌, pos, ℤ, Bool, true, false, not, None, List, map, Less, Equal, refl, sym, ap, ◌∙◌, true≢false, arith}
+use Rattle.std.proofs.Common.{◌≡◌, ◌+◌, pos, ℤ, Bool, true, false, not, None, List, map, Less, refl, sym, ap, ◌∙◌, true≢false, arith}
 use Rattle.std.specs.Prelude.{option_map}
 use Rattle.std.specs.Ordering.{int_cmp, is_eq, nat_cmp}
 use Rattle.std.specs.List.{AllByRecursion, position}
@@ -11,8 +11,6 @@ use Rattle.sqlite.specs.declared.types.Value.TheVariants.{Int}
 use Rattle.sqlite.specs.Order.{Row, column, value_cmp}
 use Rattle.sqlite_value.proofs.OrderLemmas.{value_cmp_total}
 use Rattle.sqlite_trees.specs.Tree.{rowid}
-use Rattle.sqlite_rules.specs.Lists.{Has}
-use Rattle.sqlite_rules.specs.Edit.{id_in}
 use Rattle.sqlite_rules.proofs.ListLemmas.{all_has, all_from}
 use Rattle.sqlite_rules.proofs.TableLemmas.{int_is}
 use Rattle.sql_base.specs.Ready.{AreNumbered}

@@ -1,5 +1,5 @@
 -- What is read of the realms.
-use Rattle.std.proofs.Common.{◌≡◌, ◌+◌, pos, ℕ, ℤ, negsuc, Bool, true, false, not, None, Some, List, [], ◌∷◌, map, Less, Ok, Err, Result, refl, sym, ap, subst, ◌∙◌, true≢false, arith}
+use Rattle.std.proofs.Common.{◌≡◌, ◌+◌, pos, ℕ, ℤ, negsuc, Bool, true, false, not, None, List, map, Less, Ok, Err, Result, refl, sym, ap, ◌∙◌, true≢false, arith}
 use Rattle.std.specs.Prelude.{◌&&◌, is_some, option_map, unwrap_or}
 use Rattle.std.specs.Ordering.{int_cmp, nat_cmp}
 use Rattle.std.specs.Result.{is_ok}
@@ -16,8 +16,6 @@ use Rattle.sqlite.specs.declared.types.Value.TheVariants.{Int}
 use Rattle.sqlite.specs.Order.{Row, column, value_cmp}
 use Rattle.sqlite_value.proofs.OrderLemmas.{value_cmp-Int}
 use Rattle.sqlite_trees.specs.Tree.{rowid}
-use Rattle.sqlite_rules.specs.Lists.{Has}
-use Rattle.sqlite_rules.specs.Edit.{id_in}
 use Rattle.sqlite_rules.proofs.ListLemmas.{all_has, all_from}
 use Rattle.sqlite_rules.proofs.TableLemmas.{int_is}
 use Rattle.sql_base.specs.Ready.{AreNumbered, IsNatural}

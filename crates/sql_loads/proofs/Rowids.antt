@@ -1,25 +1,24 @@
 -- Rows in the order of their rowids.
-use Rattle.std.proofs.Common.{◌≡◌, ◌+◌, ℕ, Bool, true, false, not, None, Some, List, [], ◌∷◌, map, Ordering, Less, refl, sym, ap, subst, ◌∙◌, IsPermutation, inl, inr}
-use Rattle.std.specs.Prelude.{Option, option_map}
-use Rattle.std.specs.Cmp.{IsTotalOrder}
+use Rattle.std.proofs.Common.{◌≡◌, ◌+◌, ℕ, Bool, true, false, not, None, List, [], ◌∷◌, map, Ordering, Less, refl, sym, ap, subst, ◌∙◌}
+use Rattle.std.specs.Prelude.{option_map}
 use Rattle.std.specs.Ordering.{is_eq}
 use Rattle.std.specs.List.{AllByRecursion, position, position_from}
 use Rattle.std.proofs.lemmas.Iterator.Adapters.{position_from-zero}
-use Rattle.std.proofs.lemmas.List.Sorted.{IsPermutation-sym, IsPermutation-map}
+use Rattle.std.proofs.lemmas.List.Sorted.{IsPermutation-sym}
 use Rattle.sqlite.specs.declared.types.Value.{Value}
 use Rattle.sqlite.specs.Order.{Row, column, value_cmp}
 use Rattle.sqlite_value.proofs.OrderLemmas.{value_cmp_total}
 use Rattle.sqlite_catalog.proofs.ListFacts.{none_placed}
-use Rattle.sqlite_trees.specs.Tree.{rowid, IsAscending}
-use Rattle.sqlite_trees.proofs.ListLemmas.{ascending-map, ascending_from_map, ascending_weaker}
+use Rattle.sqlite_trees.specs.Tree.{rowid}
+use Rattle.sqlite_trees.proofs.ListLemmas.{ascending-map, ascending_weaker}
 use Rattle.sqlite_rules.specs.Lists.{Has}
-use Rattle.sqlite_rules.proofs.ListLemmas.{all_has, all_from}
+use Rattle.sqlite_rules.proofs.ListLemmas.{all_has}
 use Rattle.sqlite_rules.proofs.ProbeLemmas.{has_mapped, mapped_has}
 use Rattle.sql_base.specs.Ready.{AreApart, AreNumbered}
 use Rattle.sql_base.specs.Steps.{AreListed}
 use Rattle.sql_base.specs.Told.{by_key}
 use Rattle.sql_base.proofs.QueryLemmas.{has_permuted}
-use Rattle.sql_base.proofs.TellLemmas.{IsRising, AreAlike, told_rising, told_alike, told_same}
+use Rattle.sql_base.proofs.TellLemmas.{IsRising, told_rising, told_alike, told_same}
 use Rattle.sql_accounts.proofs.TableLemmas.{IsKeyed, keys_apart}
 use Rattle.sql_sessions.proofs.Apart.{apart_weaker}
 use Rattle.sql_loads.specs.Loads.{by_rowid}

@@ -1,5 +1,5 @@
 -- What an answer's row tells.
-use Rattle.std.specs.Prelude.{ℤ, pos, Bool, ◌&&◌, is_some, Option, Some, None, unwrap_or, Result, Ok, Err}
+use Rattle.std.specs.Prelude.{pos, Bool, ◌&&◌, is_some, Option, Some, None, unwrap_or, Result, Ok, Err}
 use Rattle.std.specs.Ordering.{int_eq}
 use Rattle.realm_data.specs.RealmBuiltin.{builtin_realm}
 use Rattle.keeper_rows.specs.declared.rows.MarkRow.{MarkRow}

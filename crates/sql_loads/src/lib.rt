@@ -8,6 +8,7 @@ mod realms;
 mod secrets;
 mod sessions;
 mod stored;
+mod tables;
 mod tokens;
 
 pub use accounts::load_accounts;
@@ -15,4 +16,5 @@ pub use marks::{Marks, load_marks};
 pub use realms::{Realms, load_realms};
 pub use secrets::load_secrets;
 pub use sessions::load_sessions;
+pub use tables::{Loaded, load_tables};
 pub use tokens::load_tokens;
