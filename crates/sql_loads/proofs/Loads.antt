@@ -1,25 +1,23 @@
 -- What is known of a table whose rows were read.
-use Rattle.std.proofs.Common.{◌≡◌, ◌<◌, ◌+◌, ℕ, ℤ, zero, suc, true, false, List, [], ◌∷◌, map, length, get_or, Ordering, Less, refl, sym, ap, subst, ◌∙◌, arith, IsPermutation}
+use Rattle.std.proofs.Common.{◌≡◌, ◌<◌, ◌+◌, ℕ, ℤ, zero, suc, true, false, List, [], ◌∷◌, map, length, get_or, Ordering, refl, sym, ap, subst, ◌∙◌, arith, IsPermutation}
 use Rattle.std.specs.Cmp.{IsTotalOrder}
 use Rattle.std.specs.Ordering.{is_eq, is_lt, int_cmp}
 use Rattle.std.specs.Prelude.{IsSortedByKey}
 use Rattle.std.specs.List.{AllByRecursion}
 use Rattle.std.proofs.lemmas.Cmp.{int_cmp_total}
-use Rattle.std.proofs.lemmas.List.Sorted.{IsPermutation-sym, IsPermutation-map, length_permutation}
+use Rattle.std.proofs.lemmas.List.Sorted.{IsPermutation-sym, IsPermutation-map}
 use Rattle.sqlite.specs.declared.types.Value.TheVariants.{Int}
 use Rattle.sqlite.specs.Order.{Row, column, value_cmp}
 use Rattle.sqlite_value.proofs.OrderLemmas.{value_cmp_total, value_cmp-Int}
 use Rattle.sqlite_trees.specs.Tree.{rowid}
 use Rattle.sqlite_trees.specs.View.{is_int}
 use Rattle.sqlite_trees.proofs.ListLemmas.{ascending-map, ascending_from_map, ascending_weaker, all_of, all-map, all_from_map, all-permutation}
-use Rattle.sqlite_rules.specs.Lists.{Has}
 use Rattle.sqlite_rules.specs.Edit.{id_in}
-use Rattle.sqlite_rules.proofs.ListLemmas.{all_has, all_from}
 use Rattle.sqlite_rules.proofs.TableLemmas.{int_is}
 use Rattle.sql_base.specs.Ready.{AreApart, AreNumbered}
 use Rattle.sql_base.specs.Steps.{AreListed}
 use Rattle.sql_base.specs.Told.{by_key}
-use Rattle.sql_base.proofs.QueryLemmas.{has_permuted, map_map}
+use Rattle.sql_base.proofs.QueryLemmas.{has_permuted}
 use Rattle.sql_base.proofs.TellLemmas.{IsRising, told_same}
 use Rattle.sql_loads.specs.Fits.{HoldsNumber}
 use Rattle.sql_loads.specs.Read.{HaveRowids, IsRead, Rises}
@@ -52,7 +50,7 @@ ints_back (v ∷ values) all = rw (← int_is v all.0, ints_back values all.1) r
 
 -- ---- lists
 
-maps_same : {X Y Z : Type 0} (f : Y → Z) (g : X → Y) (h : X → Z) → ((x : X) → f (g x) ≡ h x) → (xs : List X) → map f (map g xs) ≡ map h xs
+pub maps_same : {X Y Z : Type 0} (f : Y → Z) (g : X → Y) (h : X → Z) → ((x : X) → f (g x) ≡ h x) → (xs : List X) → map f (map g xs) ≡ map h xs
 maps_same f g h same [] = refl
 maps_same f g h same (x ∷ xs) = rw (same x, maps_same f g h same xs) refl
 

@@ -9,8 +9,8 @@ ghost use Rattle.sql_base.specs.Ready.{AreNumbered};
 use crate::reading::{Shown, number_at, read_rising, text_at};
 use keeper_rows::AccountRow;
 use login_base::Sequence;
-use sql_base::Fault;
 use sql_accounts::select_accounts;
+use sql_base::Fault;
 use sqlite::{Alter, Row, Transaction};
 use std::alloc::Global;
 

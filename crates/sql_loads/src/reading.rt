@@ -1,4 +1,4 @@
-ghost use Rattle.std.specs.Prelude.{◌≡◌, ◌<◌, ◌↔◌, IfOk, OnOk, IsTrue, Ok, Err, length, map};
+ghost use Rattle.std.specs.Prelude.{◌≡◌, ◌<◌, ◌+◌, ◌^◌, ◌↔◌, IfOk, IfSome, OnOk, IsTrue, Ok, Err, length, map, option_map};
 ghost use Rattle.std.specs.Ordering.{int_cmp};
 ghost use Rattle.std.specs.List.{AllByRecursion};
 ghost use Rattle.sqlite.specs.Order.{Row as Values, column};
@@ -46,6 +46,17 @@ pub(crate) fn number_at(row: &Row, at: usize) -> Result<i64, Fault>
     ensures cause { result ≡ Err faults.Failed → at < length row.now → ¬ HoldsNumber (column row.now at) }
 {
     Ok(row.get(at)?)
+}
+
+/// The number, from 1, of the row at a place.
+pub(crate) fn number_of(place: Option<usize>) -> Option<u64>
+    requires within { IfSome place (λ at. at < 2 ^ 63) }
+    ensures value { result ≡ option_map (λ at. at + 1) place }
+{
+    match place {
+        Some(at) => Some(at as u64 + 1),
+        None => None,
+    }
 }
 
 /// The text in a column.
