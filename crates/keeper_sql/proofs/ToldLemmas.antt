@@ -1,5 +1,5 @@
 -- When a keeper tells its tables.
-use Rattle.std.proofs.Common.{◌≡◌, ◌≤◌, Bool, true, false, ◌&&◌, cond, List, Some, None, Result, Ok, Err, IsTrue, OnOk, OnErr, refl, sym, ap, arith}
+use Rattle.std.proofs.Common.{◌≡◌, ◌≤◌, Bool, true, false, ◌&&◌, cond, List, Some, None, Result, Ok, Err, IsTrue, OnOk, OnErr, IfOk, refl, sym, ap, subst, ◌∙◌, arith}
 use Rattle.std.specs.Prelude.{IfSome}
 use Rattle.sqlite_trees.specs.View.{doubt}
 use Rattle.sqlite_trees.specs.declared.store.Store.{Ghosts}
@@ -9,11 +9,13 @@ use Rattle.sqlite.specs.State.{HasCleanDisk}
 use Rattle.sqlite.specs.Held.{Held, state}
 use Rattle.keeper_rows.specs.declared.change.Change.{Change}
 use Rattle.keeper_rows.specs.declared.tables.Tables.{Tables}
-use Rattle.keeper_core.specs.Keeping.{Commits, Keeps}
+use Rattle.keeper_core.specs.Keeping.{Stays, Commits, Keeps}
+use Rattle.sql_loads.specs.declared.tables.Loaded.{Loaded}
 use Rattle.sql_base.specs.declared.fault.Fault.{Fault}
 use Rattle.sql_base.specs.Told.{tables_in}
-use Rattle.keeper_sql.specs.Committed.{IsCommitted, IsKept}
-use Rattle.keeper_sql.specs.Kept.{told, told_open}
+use Rattle.keeper_sql.specs.Committed.{IsOurs, IsCommitted, IsKept}
+use Rattle.keeper_sql.specs.Kept.{KnowsOurs, told, told_open}
+use Rattle.keeper_sql.specs.Unread.{is_whole}
 
 both : (a b : Bool) → (a && b) ≡ true → (a ≡ true) × (b ≡ true)
 both true true h = (refl, refl)
@@ -46,3 +48,31 @@ module _ {S : Type 0} (g : Ghosts S) where
         → OnErr r (Keeps (told g true (Ok old)) (told g true (Ok new)))
     stays (Ok done) h = tt
     stays (Err fault) h = if_told new _ (λ is opened. let did = h is in rw (tells old (early is) (did.was_open opened)) (ap (λ (db : Database). Some (tables_in db.trees)) (sym (did.same opened))))
+
+  -- a load that left the connection as it was, but for what made it ready, tells what it read
+  module _ (known : Bool) (old mid new : Held S) (clean : doubt (state g mid).is_clean ≤ doubt (state g new).is_clean) (same : IsTrue known → mid ≡ old) where
+    abbrev whole : Loaded → Bool
+    whole loaded = is_whole loaded.untold_realm loaded.unkeyed_mark
+
+    pub reads : (r : Result Loaded Fault) → (HasCleanDisk (state g new) → OnOk r (IsKept (state g mid) (state g new)))
+        → (HasCleanDisk (state g new) → IfOk r (λ loaded. IsTrue (whole loaded) → loaded.tables ≡ tables_in (state g mid).now.trees))
+        → IfOk r (λ loaded. IfSome (told g (whole loaded) (Ok new)) (λ now. now ≡ loaded.tables))
+    reads (Err fault) kept is_told = tt
+    reads (Ok loaded) kept is_told = go (whole loaded) refl
+      where
+        go : (b : Bool) → whole loaded ≡ b → IfSome (told g b (Ok new)) (λ now. now ≡ loaded.tables)
+        go false is = tt
+        go true all = if_told new _ (λ is opened. ap (λ (db : Database). tables_in db.trees) ((kept is).same opened) ∙ sym (is_told is all))
+
+    pub stays_read : (r : Result Loaded Fault) → (HasCleanDisk (state g new) → OnOk r (IsKept (state g mid) (state g new)))
+        → IfOk r (λ loaded. Stays (told g known (Ok old)) (told g (whole loaded) (Ok new)))
+    stays_read (Err fault) kept = tt
+    stays_read (Ok loaded) kept = both_ways (whole loaded)
+      where
+        before : (b : Bool) → known ≡ b → HasCleanDisk (state g new) → IsTrue (state g new).is_open → IfSome (told g b (Ok old)) (λ t. tables_in (state g new).now.trees ≡ t)
+        before false is clean opened = tt
+        before true is clean opened = if_told old _ (λ _ _. ap (λ (db : Database). tables_in db.trees) ((kept clean).same opened) ∙ ap (λ (h : Held S). tables_in (state g h).now.trees) (same is))
+
+        both_ways : (b : Bool) → Stays (told g known (Ok old)) (told g b (Ok new))
+        both_ways false = tt
+        both_ways true = if_told new _ (λ is opened. before known refl is opened)

@@ -14,6 +14,11 @@ pub record IsOurs (db : Database) : Type 0 where
   pub sound : IsDatabase db
   pub kept : AreKept db.trees
 
+-- the database has our tables, whatever their rows
+pub record HasOurTables (db : Database) : Type 0 where
+  pub schema_is : db.schema ≡ schema
+  pub sound : IsDatabase db
+
 -- a statement was refused
 abbrev pub IsRefused : State → State → Type 0
 IsRefused old new = IsUnchanged old new ⊎ IsRolledBack old new

@@ -1,13 +1,16 @@
 -- What contracts see of a keeper, and the tables that it tells.
-use Rattle.std.specs.Prelude.{ℕ, Bool, ◌&&◌, Option, Some, None, Result, Ok, Err, IfOk, IsTrue, if◌then◌else◌, refl}
+use Rattle.std.specs.Prelude.{◌≡◌, ℕ, Bool, ◌&&◌, Option, Some, None, Result, Ok, Err, IfOk, IsTrue, if◌then◌else◌, refl}
 use Rattle.std.specs.Coded.{Coded, code_by, coded×, coded_ℕ, coded_bool, coded_result}
 use Rattle.keeper_rows.specs.declared.tables.Tables.{Tables}
 use Rattle.login_base.specs.Outside.{counted}
+use Rattle.keeper_core.specs.declared.keeper.LoadFault.{LoadFault}
+use Rattle.keeper_core.specs.declared.keeper.LoadFault.TheVariants as loads
 use Rattle.keeper_core.specs.declared.keeper.CommitFault.{CommitFault}
 use Rattle.keeper_core.specs.declared.keeper.CommitFault.TheVariants as commits
 use Rattle.sqlite_trees.specs.declared.store.Store.{Ghosts}
 use Rattle.sqlite.specs.declared.error.Error.{Error}
-use Rattle.sqlite.specs.State.{HasCleanDisk}
+use Rattle.sqlite_trees.specs.Tree.{Trees}
+use Rattle.sqlite.specs.State.{HasCleanDisk, Survives}
 use Rattle.sqlite.specs.Held.{Held, held_code, state}
 use Rattle.sql_base.specs.declared.fault.Fault.{Fault}
 use Rattle.sql_base.specs.contracts.fault.Fault as fault
@@ -42,6 +45,12 @@ told_open g (Err fault) = None
 abbrev pub told : {S : Type 0} → Ghosts S → Bool → Result (Held S) Fault → Option Tables
 told g known opened = if known then told_open g opened else None
 
+-- a crash of an opened database finds what it could find before, or what may be committed
+abbrev pub Endures : {S : Type 0} → Ghosts S → (Held S → Trees → Type 0) → Result (Held S) Fault → Result (Held S) Fault → Type 0
+Endures g Commits (Ok before) (Ok now) = Survives (state g before) (state g now) (Commits before)
+Endures g Commits (Err before) (Err now) = now ≡ before
+Endures g Commits before now = ⊥
+
 -- what a keeper keeps of an opening
 abbrev pub opened_as : {C : Type 0} → Result C Error → Result C Fault
 opened_as (Ok conn) = Ok conn
@@ -50,6 +59,10 @@ opened_as (Err error) = Err (fault_of error)
 abbrev pub faults_after : Fault → ℕ → ℕ
 faults_after faults.Failed before = counted before
 faults_after faults.Memory before = before
+
+abbrev pub load_fault : Fault → LoadFault
+load_fault faults.Failed = loads.Failed
+load_fault faults.Memory = loads.Memory
 
 abbrev pub commit_fault : Fault → CommitFault
 commit_fault faults.Failed = commits.Failed

@@ -1,3 +1,4 @@
 pub mod Committed
 pub mod Kept
 pub mod Made
+pub mod Unread

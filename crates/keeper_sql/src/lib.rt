@@ -4,6 +4,11 @@
 mod changes;
 mod commit;
 mod keeper;
+mod loading;
 mod making;
 mod opening;
 mod same;
+#[cfg(test)]
+mod tests;
+
+pub use keeper::SqlKeeper;

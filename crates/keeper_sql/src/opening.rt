@@ -5,6 +5,7 @@ ghost use Rattle.sqlite.specs.State.{HasCleanDisk, Survives};
 ghost use Rattle.sqlite.specs.Steps.{over_memory};
 ghost use Rattle.sql_base.specs.Schema.{no_schema, schema as our_schema};
 ghost use Rattle.sql_base.specs.Told.{tables_in};
+ghost use Rattle.keeper_sql.specs.Committed.{HasOurTables, IsOurs};
 
 use crate::making::make_schema;
 use crate::same::are_schemas_same;
@@ -34,9 +35,9 @@ fn is_blank(schema: &Schema) -> bool
 }
 
 /// Makes our tables where nothing was made, and refuses a database that has others.
-pub(crate) fn prepare<S: Alter>(alloc: Global, conn: &mut Connection<S>) -> Result<(), Fault>
+fn prepare<S: Alter>(alloc: Global, conn: &mut Connection<S>) -> Result<(), Fault>
     ensures ours { HasCleanDisk (state S.Store conn.new) → OnOk result
-        ((state S.Store conn.new).now.schema ≡ our_schema) }
+        (IsTrue (state S.Store conn.new).is_open → HasOurTables (state S.Store conn.new).now) }
     ensures survives { Survives (state S.Store conn.old) (state S.Store conn.new)
         (λ trees. tables_in trees ≡ no_rows) }
 {
@@ -49,4 +50,21 @@ pub(crate) fn prepare<S: Alter>(alloc: Global, conn: &mut Connection<S>) -> Resu
     } else {
         Err(Fault::Failed)
     }
+}
+
+/// Makes or compares our tables, where they aren't known to be there.
+pub(crate) fn ready<S: Alter>(
+    alloc: Global,
+    conn: &mut Connection<S>,
+    known: bool,
+) -> Result<(), Fault>
+    requires ours { IsTrue known → HasCleanDisk (state S.Store conn.old) → IsTrue (state S.Store conn.old).is_open
+        → IsOurs (state S.Store conn.old).now }
+    ensures ours { HasCleanDisk (state S.Store conn.new) → OnOk result
+        (IsTrue (state S.Store conn.new).is_open → HasOurTables (state S.Store conn.new).now) }
+    ensures same { IsTrue known → conn.new ≡ conn.old }
+    ensures survives { Survives (state S.Store conn.old) (state S.Store conn.new)
+        (λ trees. tables_in trees ≡ no_rows) }
+{
+    if known { Ok(()) } else { prepare(alloc, conn) }
 }
