@@ -1,12 +1,12 @@
 mod AccountLemmas
 mod AccountTexts
 mod AgreeLemmas
-mod MarkLemmas
+pub mod MarkLemmas
 mod MarkTexts
 mod NumberLemmas
-mod RealmLemmas
+pub mod RealmLemmas
 mod RealmTexts
 mod SecretLemmas
 mod SecretTexts
-mod TableLemmas
+pub mod TableLemmas
 mod WriteLemmas

@@ -82,7 +82,7 @@ IsOne r = rowid r ≡ Int (pos 1)
 one_is : is_eq (value_cmp (Int (pos 1)) (Int (pos 1))) ≡ true
 one_is = ap is_eq (tied_itself value_cmp_total (Int (pos 1)))
 
-keyed : IsKeyed nat_cmp mark_key mark_of IsOne
+pub keyed : IsKeyed nat_cmp mark_key mark_of IsOne
 keyed = record { total = nat_cmp_total; same = λ a b g h. rw (g, h) (sym one_is) }
 
 at : (r : Row) → IsOne r → is_eq (nat_cmp (mark_key (mark_of r)) 1) ≡ has_rowid (pos 1) r

@@ -83,7 +83,7 @@ upsert version text = record {
 same_number : (m n : ℕ) → is_eq (nat_cmp m n) ≡ is_eq (value_cmp (Int (pos m)) (Int (pos n)))
 same_number m n = let e = value_cmp-Int (pos m) (pos n) in rw e (grind (arith, ints, nat_tests))
 
-keyed : IsKeyed nat_cmp realm_key realm_of IsNatural
+pub keyed : IsKeyed nat_cmp realm_key realm_of IsNatural
 keyed = record { total = nat_cmp_total; same = λ a b g h. rw (g.1, h.1) (same_number g.0 h.0) }
 
 at : (k : ℕ) (r : Row) → IsNatural r → is_eq (nat_cmp (realm_key (realm_of r)) k) ≡ has_rowid (pos k) r

@@ -2,7 +2,6 @@ pub mod Apart
 pub mod Deletes
 pub mod Keys
 pub mod Lists
-pub mod Loads
 pub mod Members
 pub mod SessionLemmas
 pub mod Tells

@@ -1,5 +1,5 @@
 -- What the texts on sessions do.
-use Rattle.std.proofs.Common.{◌≡◌, ℕ, List, [], ◌∷◌, map, drop, codes, Ok, Err, Result, IfOk, OnOk, refl, sym, subst, arith}
+use Rattle.std.proofs.Common.{◌≡◌, ℕ, List, [], ◌∷◌, map, drop, codes, Ok, Err, Result, OnOk, refl, subst, arith}
 use Rattle.std.specs.List.{AllByRecursion}
 use Rattle.std.proofs.lemmas.Bool.{and_parts}
 use Rattle.keeper_rows.specs.Applied.{text_cmp, session_key, put_row, drop_row}
@@ -26,9 +26,7 @@ use Rattle.sql_base.specs.Told.{by_key, session_of, tables_in}
 use Rattle.sql_base.specs.Ready.{AreApart, AreNumbered, AreKept, IsReady, Changes}
 use Rattle.sql_sessions.specs.Texts.{put_session_text, drop_session_text, load_session_text}
 use Rattle.sql_base.specs.Steps.{IsBegun, IsMade, AreListed}
-use Rattle.sql_sessions.specs.Values.{session_values, session_shown, session_in}
-use Rattle.sql_sessions.specs.Read.{IsRead, AreSessions}
-use Rattle.sql_sessions.proofs.Loads.{keys_differ, rows_told, rows_numbered}
+use Rattle.sql_sessions.specs.Values.{session_values, session_shown}
 use Rattle.sql_base.proofs.CreateLemmas.{creates}
 use Rattle.sql_sessions.proofs.Lists.{lists}
 use Rattle.sql_sessions.proofs.Keys.{text_key, keys_apart, told_apart}
@@ -154,22 +152,3 @@ create_makes = creates schema_3 session session_text create_session_is create_se
 
 pub select_lists : (old new : State) (rows : List Row) → old.now.schema ≡ schema → Shown load_session_text [] old new rows → AreListed session_shown (old.now.trees 5) rows × IsUnchanged old new
 select_lists = lists 5 (col 1 2 ∷ col 1 3 ∷ col 1 4 ∷ col 1 5 ∷ col 1 6 ∷ col 1 7 ∷ col 1 0 ∷ []) load_session_text _ load_session_is load_session_plain (λ db. refl)
-
-pub load_tells : (rows answer : List Row) (told : List SessionRow) → AreListed session_shown rows answer → IsRead text_cmp session_key session_in 7 answer told
-    → AreSessions rows × (told ≡ by_key text_cmp session_key (map session_of rows))
-load_tells rows answer told listed read = (
-  record {
-    numbered = rows_numbered session_key session_of session_shown session_in 7 (λ r. refl) (λ r. refl) rows answer told listed read;
-    apart = keys_differ session_key session_of session_shown session_in 7 (λ r. refl) (λ r. refl) rows answer told listed read;
-  },
-  sym (rows_told session_key session_of session_shown session_in 7 (λ r. refl) (λ r. refl) rows answer told listed read),
-)
-
-pub load_told : {E : Type 0} (rows answer : List Row) (r : Result (List SessionRow) E) → AreListed session_shown rows answer → IfOk r (IsRead text_cmp session_key session_in 7 answer)
-    → IfOk r (λ told. told ≡ by_key text_cmp session_key (map session_of rows))
-load_told rows answer (Ok told) listed read = (load_tells rows answer told listed read).1
-load_told rows answer (Err e) listed read = tt
-
-pub load_kept : {E : Type 0} (rows answer : List Row) (r : Result (List SessionRow) E) → AreListed session_shown rows answer → IfOk r (IsRead text_cmp session_key session_in 7 answer) → OnOk r (AreSessions rows)
-load_kept rows answer (Ok told) listed read = (load_tells rows answer told listed read).0
-load_kept rows answer (Err e) listed read = tt

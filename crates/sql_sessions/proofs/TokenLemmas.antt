@@ -1,5 +1,5 @@
 -- What the texts on tokens do.
-use Rattle.std.proofs.Common.{◌≡◌, ℕ, List, [], ◌∷◌, map, drop, codes, Ok, Err, Result, IfOk, OnOk, refl, sym, subst, arith}
+use Rattle.std.proofs.Common.{◌≡◌, ℕ, List, [], ◌∷◌, map, drop, codes, Ok, Err, Result, OnOk, refl, subst, arith}
 use Rattle.std.specs.List.{AllByRecursion}
 use Rattle.std.proofs.lemmas.Bool.{and_parts}
 use Rattle.keeper_rows.specs.Applied.{text_cmp, token_key, put_row, drop_row}
@@ -26,9 +26,7 @@ use Rattle.sql_base.specs.Told.{by_key, token_of, tables_in}
 use Rattle.sql_base.specs.Ready.{AreApart, AreNumbered, AreKept, IsReady, Changes}
 use Rattle.sql_sessions.specs.Texts.{put_token_text, drop_token_text, load_token_text}
 use Rattle.sql_base.specs.Steps.{IsBegun, IsMade, AreListed}
-use Rattle.sql_sessions.specs.Values.{token_values, token_shown, token_in}
-use Rattle.sql_sessions.specs.Read.{IsRead, AreTokens}
-use Rattle.sql_sessions.proofs.Loads.{keys_differ, rows_told, rows_numbered}
+use Rattle.sql_sessions.specs.Values.{token_values, token_shown}
 use Rattle.sql_base.proofs.CreateLemmas.{creates}
 use Rattle.sql_sessions.proofs.Lists.{lists}
 use Rattle.sql_sessions.proofs.Keys.{text_key, keys_apart, told_apart}
@@ -154,22 +152,3 @@ create_makes = creates schema_4 token token_text create_token_is create_token_pl
 
 pub select_lists : (old new : State) (rows : List Row) → old.now.schema ≡ schema → Shown load_token_text [] old new rows → AreListed token_shown (old.now.trees 7) rows × IsUnchanged old new
 select_lists = lists 7 (col 1 2 ∷ col 1 3 ∷ col 1 4 ∷ col 1 5 ∷ col 1 0 ∷ []) load_token_text _ load_token_is load_token_plain (λ db. refl)
-
-pub load_tells : (rows answer : List Row) (told : List TokenRow) → AreListed token_shown rows answer → IsRead text_cmp token_key token_in 5 answer told
-    → AreTokens rows × (told ≡ by_key text_cmp token_key (map token_of rows))
-load_tells rows answer told listed read = (
-  record {
-    numbered = rows_numbered token_key token_of token_shown token_in 5 (λ r. refl) (λ r. refl) rows answer told listed read;
-    apart = keys_differ token_key token_of token_shown token_in 5 (λ r. refl) (λ r. refl) rows answer told listed read;
-  },
-  sym (rows_told token_key token_of token_shown token_in 5 (λ r. refl) (λ r. refl) rows answer told listed read),
-)
-
-pub load_told : {E : Type 0} (rows answer : List Row) (r : Result (List TokenRow) E) → AreListed token_shown rows answer → IfOk r (IsRead text_cmp token_key token_in 5 answer)
-    → IfOk r (λ told. told ≡ by_key text_cmp token_key (map token_of rows))
-load_told rows answer (Ok told) listed read = (load_tells rows answer told listed read).1
-load_told rows answer (Err e) listed read = tt
-
-pub load_kept : {E : Type 0} (rows answer : List Row) (r : Result (List TokenRow) E) → AreListed token_shown rows answer → IfOk r (IsRead text_cmp token_key token_in 5 answer) → OnOk r (AreTokens rows)
-load_kept rows answer (Ok told) listed read = (load_tells rows answer told listed read).0
-load_kept rows answer (Err e) listed read = tt

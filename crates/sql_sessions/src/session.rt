@@ -8,15 +8,11 @@ ghost use Rattle.sql_base.specs.Ready.{IsReady, Changes};
 ghost use Rattle.sql_base.specs.Told.{tables_in};
 ghost use Rattle.sql_base.specs.Schema.{schema, schema_3, schema_4};
 ghost use Rattle.sql_base.specs.Steps.{IsBegun, IsMade, AreListed};
-ghost use Rattle.sql_sessions.specs.Read.{AreSessions};
 ghost use Rattle.sql_sessions.specs.Values.{session_shown};
 
-use crate::reading::{Shown, read_all, text_at};
 use keeper_rows::{SessionRow, Text};
-use login_base::Sequence;
 use sql_base::Fault;
 use sqlite::{Alter, Row, Transaction, params};
-use std::alloc::Global;
 
 /// Makes the table of sessions, behind those of realms, accounts and secrets.
 pub fn create_sessions<S: Alter>(tx: &mut Transaction<'_, S>) -> Result<(), Fault>
@@ -50,43 +46,6 @@ pub fn select_sessions<S: Alter>(tx: &mut Transaction<'_, S>) -> Result<Vec<Row>
         "SELECT id, user, opened, seen, idle, max, levels, rowid FROM session ORDER BY id",
         &[],
     )?)
-}
-
-impl Shown for SessionRow {
-    ghost use Rattle.sql_sessions.specs.Values.{session_in};
-
-    ghost told_by = { session_in };
-
-    fn read(alloc: Global, row: &Row) -> Result<SessionRow, Fault> {
-        Ok(SessionRow {
-            id: text_at(alloc, row, 0)?,
-            user: row.get(1)?,
-            opened: row.get(2)?,
-            seen: row.get(3)?,
-            idle: row.get(4)?,
-            max: row.get(5)?,
-            levels: text_at(alloc, row, 6)?,
-        })
-    }
-}
-
-/// The sessions in the order of their ids.
-pub fn load_sessions<S: Alter>(
-    alloc: Global,
-    tx: &mut Transaction<'_, S>,
-) -> Result<Sequence<SessionRow>, Fault>
-    requires begun { HasCleanDisk (state S.Store tx.old.conn.now) → IsBegun schema (state S.Store tx.old.conn.now) }
-    ensures same_reference { tx.new.conn.ghost_name ≡ tx.old.conn.ghost_name }
-    ensures told { HasCleanDisk (state S.Store tx.new.conn.now) → IfOk result (λ sessions.
-        sessions ≡ (tables_in (state S.Store tx.old.conn.now).now.trees).sessions) }
-    ensures kept { HasCleanDisk (state S.Store tx.new.conn.now) → OnOk result
-        (AreSessions ((state S.Store tx.old.conn.now).now.trees 5)) }
-    ensures same { HasCleanDisk (state S.Store tx.new.conn.now) → OnOk result
-        (IsUnchanged (state S.Store tx.old.conn.now) (state S.Store tx.new.conn.now)) }
-    ensures survives { Survives (state S.Store tx.old.conn.now) (state S.Store tx.new.conn.now) (λ _. ⊥) }
-{
-    let rows = select_sessions(tx)?;
-    read_all(alloc, rows.as_slice(), 7)
 }
 
 /// Puts a session by its id.

@@ -8,15 +8,11 @@ ghost use Rattle.sql_base.specs.Ready.{IsReady, Changes};
 ghost use Rattle.sql_base.specs.Told.{tables_in};
 ghost use Rattle.sql_base.specs.Schema.{schema, schema_4, schema_5};
 ghost use Rattle.sql_base.specs.Steps.{IsBegun, IsMade, AreListed};
-ghost use Rattle.sql_sessions.specs.Read.{AreTokens};
 ghost use Rattle.sql_sessions.specs.Values.{token_shown};
 
-use crate::reading::{Shown, read_all, text_at};
 use keeper_rows::{Text, TokenRow};
-use login_base::Sequence;
 use sql_base::Fault;
 use sqlite::{Alter, Row, Transaction, params};
-use std::alloc::Global;
 
 /// Makes the table of tokens, behind that of sessions.
 pub fn create_tokens<S: Alter>(tx: &mut Transaction<'_, S>) -> Result<(), Fault>
@@ -50,41 +46,6 @@ pub fn select_tokens<S: Alter>(tx: &mut Transaction<'_, S>) -> Result<Vec<Row>, 
         "SELECT key, user, kind, expiry, spent, rowid FROM token ORDER BY key",
         &[],
     )?)
-}
-
-impl Shown for TokenRow {
-    ghost use Rattle.sql_sessions.specs.Values.{token_in};
-
-    ghost told_by = { token_in };
-
-    fn read(alloc: Global, row: &Row) -> Result<TokenRow, Fault> {
-        Ok(TokenRow {
-            key: text_at(alloc, row, 0)?,
-            user: row.get(1)?,
-            kind: text_at(alloc, row, 2)?,
-            expiry: row.get(3)?,
-            spent: row.get(4)?,
-        })
-    }
-}
-
-/// The tokens in the order of their keys.
-pub fn load_tokens<S: Alter>(
-    alloc: Global,
-    tx: &mut Transaction<'_, S>,
-) -> Result<Sequence<TokenRow>, Fault>
-    requires begun { HasCleanDisk (state S.Store tx.old.conn.now) → IsBegun schema (state S.Store tx.old.conn.now) }
-    ensures same_reference { tx.new.conn.ghost_name ≡ tx.old.conn.ghost_name }
-    ensures told { HasCleanDisk (state S.Store tx.new.conn.now) → IfOk result (λ tokens.
-        tokens ≡ (tables_in (state S.Store tx.old.conn.now).now.trees).tokens) }
-    ensures kept { HasCleanDisk (state S.Store tx.new.conn.now) → OnOk result
-        (AreTokens ((state S.Store tx.old.conn.now).now.trees 7)) }
-    ensures same { HasCleanDisk (state S.Store tx.new.conn.now) → OnOk result
-        (IsUnchanged (state S.Store tx.old.conn.now) (state S.Store tx.new.conn.now)) }
-    ensures survives { Survives (state S.Store tx.old.conn.now) (state S.Store tx.new.conn.now) (λ _. ⊥) }
-{
-    let rows = select_tokens(tx)?;
-    read_all(alloc, rows.as_slice(), 5)
 }
 
 /// Puts a token by its key.

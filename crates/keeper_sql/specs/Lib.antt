@@ -1,0 +1,4 @@
+pub mod Committed
+pub mod Kept
+pub mod Made
+pub mod Unread

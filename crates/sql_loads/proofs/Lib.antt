@@ -1,0 +1,6 @@
+pub mod Rising
+pub mod Loads
+pub mod NumberLoads
+pub mod Rowids
+pub mod RealmLoads
+pub mod MarkLoads

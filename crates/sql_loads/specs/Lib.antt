@@ -1,0 +1,5 @@
+pub mod Fits
+pub mod Loads
+pub mod Read
+pub mod Tables
+pub mod Values
