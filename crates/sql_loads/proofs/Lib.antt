@@ -4,3 +4,4 @@ pub mod NumberLoads
 pub mod Rowids
 pub mod RealmLoads
 pub mod MarkLoads
+pub mod Causes
