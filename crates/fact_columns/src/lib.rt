@@ -1,0 +1,19 @@
+//! What the columns of a login service's tables hold, as it is written: numbers, words and lists in
+//! texts, and how secrets are kept. `keeper_columns` reads what is written here.
+#![tactic(auto)]
+
+mod bodies;
+mod items;
+
+mod lists;
+mod numbers;
+
+
+mod words;
+
+pub use bodies::{otp_body, password_body, recovery_body};
+pub use items::Item;
+pub use numbers::{column, flag, moment_or_none};
+pub use words::{
+    actions_text, levels_text, number_text, roles_text, secret_word, steps_text, token_word,
+};
