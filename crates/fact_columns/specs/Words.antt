@@ -1,5 +1,5 @@
 -- The words and lists of the tables, as they are written.
-use Rattle.std.specs.Prelude.{ℕ, ◌-◌, ◌++◌, max, nat_le, List, [], codes, decimal, filter, fold}
+use Rattle.std.specs.Prelude.{ℕ, ◌-◌, ◌^◌, ◌++◌, ◌&&◌, Bool, max, nat_le, List, codes, decimal, filter, fold}
 use Rattle.conditions.specs.declared.secret_kind.SecretKind.{SecretKind}
 use Rattle.conditions.specs.declared.secret_kind.SecretKind.TheVariants as kinds
 use Rattle.realm_data.specs.declared.action.Action.{Action}
@@ -35,7 +35,7 @@ role_text role = role
 
 -- `<level>@<moment>`
 abbrev pub level_text : ReachedLevel → List ℕ
-level_text reached = decimal reached.level ++ codes "@" ++ decimal reached.moment
+level_text reached = decimal reached.level ++ (codes "@" ++ decimal reached.moment)
 
 -- ---- lists
 
@@ -67,3 +67,12 @@ kept_steps steps = in_order is_step_before (near_steps steps)
 
 abbrev pub steps_text : List ℕ → List ℕ
 steps_text steps = listed decimal (kept_steps steps)
+
+-- ---- ranges
+
+-- the level is 1 to 1,000, and the moment below 2^53
+abbrev pub is_reached : ReachedLevel → Bool
+is_reached reached = nat_le 1 reached.level && nat_le reached.level 1000 && nat_le reached.moment (2 ^ 53 - 1)
+
+abbrev pub is_step : ℕ → Bool
+is_step step = nat_le step (2 ^ 64 - 1)

@@ -72,11 +72,13 @@ fn near_steps(alloc: Global, steps: &[u64]) -> Result<Vec<u64>, Memory>
     ensures { IfOk result (λ near. near.items ≡ near_steps steps.now) }
 {
     let greatest = greatest_step(steps);
-    Ok(steps
-        .iter()
-        .copied()
-        .filter(|step| greatest.saturating_sub(*step) <= 4)
-        .collect(alloc)?)
+    Ok(
+        steps
+            .iter()
+            .copied()
+            .filter(|step| greatest.saturating_sub(*step) <= 4)
+            .collect(alloc)?,
+    )
 }
 
 /// The spent steps of 30 s (RFC 6238) from the newest less 4 on, ascending.
