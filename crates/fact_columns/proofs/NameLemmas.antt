@@ -1,11 +1,13 @@
--- Names are texts.
-use Rattle.std.proofs.Common.{◌≡◌, ℕ, ◌<◌, true, ◌&&◌, nat_le, List, [], ◌∷◌, length, arith}
+-- Names and ids are texts.
+use Rattle.std.proofs.Common.{◌≡◌, ℕ, zero, suc, ◌*◌, ◌/◌, ◌%◌, ◌^◌, ◌<◌, true, ◌&&◌, nat_le, List, [], ◌∷◌, ◌++◌, length, arith}
 use Rattle.std.specs.List.{list_all}
 use Rattle.std.specs.Str.{IsUtf8, IsAscii}
 use Rattle.std.proofs.lemmas.Bool.{and_parts}
 use Rattle.std.proofs.lemmas.Bool.Decides.{nat_tests}
-use Rattle.std.proofs.lemmas.Str.{IsUtf8-from_ascii}
+use Rattle.std.proofs.lemmas.Str.{IsUtf8-from_ascii, IsAscii-append}
 use Rattle.std.proofs.lemmas.Str.Ascii.{IsAscii-nil, IsAscii-cons}
+use Rattle.login_base.specs.IdText.{hex_digit, hex_text, id_bytes}
+use Rattle.login_base.specs.declared.id.Id.{Id}
 use Rattle.login_base.specs.Names.{is_name, is_name_byte, is_first_byte}
 
 plain_byte : (b : ℕ) → is_name_byte b ≡ true → b < 128
@@ -24,3 +26,25 @@ name_utf8 (b ∷ bs) h =
     IsUtf8-from_ascii (b ∷ bs) (plain_bytes (b ∷ bs) bytes.1)
 
 pub ruleset name_rules = (name_utf8)
+
+-- ---- ids
+
+digit_plain : (d : ℕ) → d < 16 → hex_digit d < 128
+digit_plain d h = grind (arith, nat_tests)
+
+hex_plain : (k n : ℕ) → IsAscii (hex_text k n)
+unfolding hex_text
+hex_plain zero n = IsAscii-nil
+hex_plain (suc k) n =
+    let d : ℕ = n / 2 ^ (4 * k) % 16 in
+    let small : d < 16 = omega arith in
+    IsAscii-cons (hex_digit d) (hex_text k n) (digit_plain d small) (hex_plain k n)
+
+pub id_utf8 : (id : Id) → IsUtf8 (id_bytes id)
+unfolding id_bytes
+id_utf8 id =
+    IsUtf8-from_ascii _
+    (IsAscii-append (hex_text 16 id.serial) (46 ∷ (hex_text 16 id.high ++ hex_text 16 id.low)) (hex_plain 16 id.serial)
+    (IsAscii-cons 46 (hex_text 16 id.high ++ hex_text 16 id.low) (omega arith)
+    (IsAscii-append (hex_text 16 id.high) (hex_text 16 id.low) (hex_plain 16 id.high) (hex_plain 16 id.low))))
+

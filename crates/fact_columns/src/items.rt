@@ -2,11 +2,11 @@ ghost use Rattle.std.specs.Prelude.{◌≡◌, ◌++◌, ℕ, List, IfOk, OnOk, 
 ghost use Rattle.std.specs.String.{string_bytes};
 ghost use Rattle.fact_columns.specs.Words.{action_word};
 
+use crate::names::name_str;
 use keeper_columns::{ListItem, ReachedLevel};
 use login_base::{Duplicate, Memory, Name};
 use realm_data::Action;
 use std::alloc::Global;
-use std::str::from_utf8;
 
 /// What a text can list, as it is written.
 pub trait Item: ListItem {
@@ -19,17 +19,6 @@ pub trait Item: ListItem {
     /// A copy, which equals it.
     fn copy(&self, alloc: Global) -> Result<Self, Memory>
         ensures ok { IfOk result (λ copy. copy ≡ self.now) };
-}
-
-/// The name as text.
-#[tactic(auto, using(crate::proofs::NameLemmas::name_rules))]
-fn name_text(name: &Name) -> &str
-    ensures { result.now ≡ name.now }
-{
-    match from_utf8(name.as_bytes()) {
-        Ok(text) => text,
-        Err(_) => unreachable!(),
-    }
 }
 
 fn action_word(action: Action) -> &'static str
@@ -59,7 +48,7 @@ impl Item for Name {
     ghost text = { role_text };
 
     fn add_to(&self, _alloc: Global, out: &mut String) -> Result<(), Memory> {
-        out.push_str(name_text(self))?;
+        out.push_str(name_str(self))?;
         Ok(())
     }
 

@@ -6,6 +6,7 @@ mod bodies;
 mod items;
 mod laws;
 mod lists;
+mod names;
 mod numbers;
 #[cfg(test)]
 mod tests;
@@ -17,6 +18,7 @@ pub use laws::{
     actions_are_read_back, kinds_are_read_back, levels_are_read_back, numbers_are_read_back,
     passwords_are_read_back, recovery_is_kept, roles_are_read_back, steps_are_read_back,
 };
+pub use names::{id_column, name_text};
 pub use numbers::{column, flag, moment_or_none};
 pub use words::{
     actions_text, levels_text, number_text, roles_text, secret_word, steps_text, token_word,
