@@ -47,4 +47,3 @@ id_utf8 id =
     (IsAscii-append (hex_text 16 id.serial) (46 ∷ (hex_text 16 id.high ++ hex_text 16 id.low)) (hex_plain 16 id.serial)
     (IsAscii-cons 46 (hex_text 16 id.high ++ hex_text 16 id.low) (omega arith)
     (IsAscii-append (hex_text 16 id.high) (hex_text 16 id.low) (hex_plain 16 id.high) (hex_plain 16 id.low))))
-

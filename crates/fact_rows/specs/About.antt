@@ -1,5 +1,5 @@
 -- Which facts a question is about: a fact of another subject has no answer to it.
-use Rattle.std.proofs.Common.{◌≡◌, ℕ, Bool, false, ◌==◌, Option, Some, None, refl}
+use Rattle.std.proofs.Common.{◌≡◌, ℕ, false, ◌==◌, Option, Some, None, refl}
 use Rattle.login_base.specs.IdText.{same_id}
 use Rattle.login_base.specs.declared.id.Id.{Id}
 use Rattle.login_base.specs.declared.id.SessionId.{SessionId}

@@ -1,5 +1,5 @@
 -- Which row is due at a key.
-use Rattle.std.specs.Prelude.{ℕ, ℤ, pos, negsuc, ◌==◌, List, Option, Some, None, option_map, option_and_then, if◌then◌else◌}
+use Rattle.std.specs.Prelude.{ℕ, ℤ, pos, ◌==◌, List, Option, Some, None, option_map, option_and_then, if◌then◌else◌}
 use Rattle.login_base.specs.IdText.{id_of}
 use Rattle.login_base.specs.declared.id.Id.{Id}
 use Rattle.keeper_rows.specs.declared.change.Row.{Row}
@@ -11,7 +11,6 @@ use Rattle.keeper_rows.specs.declared.rows.AccountRow.{AccountRow}
 use Rattle.keeper_rows.specs.declared.rows.SecretRow.{SecretRow}
 use Rattle.keeper_rows.specs.declared.rows.SessionRow.{SessionRow}
 use Rattle.keeper_rows.specs.declared.rows.TokenRow.{TokenRow}
-use Rattle.keeper_rows.specs.declared.rows.MarkRow.{MarkRow}
 use Rattle.facts.specs.declared.fact.Fact.{Fact}
 use Rattle.fact_rows.specs.Rows.{realm_row, account_row, secret_row, session_row, token_row, mark_row}
 

@@ -1,5 +1,5 @@
 -- The rows that facts give.
-use Rattle.std.specs.Prelude.{ℕ, ℤ, pos, ◌-◌, ◌^◌, ◌==◌, Bool, not, min, nat_lt, List, [], length, decimal, map, Option, Some, None, option_map, option_and_then, unwrap_or, if◌then◌else◌}
+use Rattle.std.specs.Prelude.{ℕ, pos, ◌-◌, ◌^◌, ◌==◌, Bool, not, min, nat_lt, List, [], length, decimal, map, Option, Some, None, option_map, option_and_then, unwrap_or, if◌then◌else◌}
 use Rattle.login_base.specs.IdText.{id_bytes}
 use Rattle.login_base.specs.declared.id.SessionId.{SessionId}
 use Rattle.login_base.specs.declared.id.TokenKey.{TokenKey}
