@@ -5,6 +5,8 @@
 mod batches;
 mod keys;
 mod laws;
+#[cfg(test)]
+mod tests;
 
 pub use batches::batch;
 pub use laws::{batch_is_empty_where_nothing_is_stored, tables_stand_on};
