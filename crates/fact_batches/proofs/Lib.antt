@@ -1,0 +1,9 @@
+pub mod ChangeLemmas
+pub mod DueLemmas
+pub mod KeptLemmas
+pub mod RealmLemmas
+pub mod SecretLemmas
+pub mod StandLemmas
+pub mod StoredLemmas
+pub mod TableLemmas
+pub mod TouchedLemmas

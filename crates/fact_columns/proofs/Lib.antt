@@ -1,0 +1,5 @@
+pub mod BodyLemmas
+pub mod ItemLemmas
+pub mod ListLemmas
+pub mod NameLemmas
+pub mod ReadBack
