@@ -1,5 +1,5 @@
 -- One read after another.
-use Rattle.std.proofs.Common.{◌≡◌, ◌⊎◌, inl, inr, ◌∙◌, subst, sym, arith, true≢false}
+use Rattle.std.proofs.Common.{◌⊎◌, inl, inr, ◌∙◌, subst, sym, arith, true≢false}
 use Rattle.sqlite.specs.Effect.{Database}
 use Rattle.sqlite.specs.State.{State, IsUnchanged, Survives}
 use Rattle.sqlite.proofs.StateLemmas.{survives_then}

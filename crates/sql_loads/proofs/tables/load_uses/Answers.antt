@@ -2,7 +2,7 @@ use Rattle.std.proofs.Common.{◌≡◌, inl, inr, ap, arith, Err}
 use Rattle.sqlite.specs.Held.{state}
 use Rattle.sqlite.specs.State.{HasCleanDisk}
 use Rattle.sql_base.specs.declared.fault.Fault.TheVariants.{Failed}
-use Rattle.sql_loads.specs.Loads.{SessionsFit, TokensFit, MarksFit}
+use Rattle.sql_loads.specs.Loads.{TokensFit, MarksFit}
 use Rattle.sql_loads.specs.Tables.{UsesFit}
 use Rattle.sql_loads.proofs.Chains.{cause_later, survives_both, unchanged_both}
 use Rattle.sql_loads.proofs.tables.load_uses.Goals as goal
