@@ -1,5 +1,5 @@
 -- What the texts on realms mean.
-use Rattle.std.proofs.Common.{◌≡◌, Ok, refl, List, [], ◌∷◌, Some, codes, false, ℕ}
+use Rattle.std.proofs.Common.{◌≡◌, Ok, refl, List, [], ◌∷◌, Some, codes, true, false, ℕ}
 use Rattle.sqlite.specs.declared.types.Value.TheVariants.{Null}
 use Rattle.sqlite.specs.Collation.TheVariants.{Binary}
 use Rattle.sqlite.specs.Table.{Table}
@@ -17,7 +17,9 @@ use Rattle.sqlite_schema.specs.declared.command.Conflict.TheVariants.{Abort}
 use Rattle.sqlite_tied.specs.Compute.{everything}
 use Rattle.sqlite.proofs.Callers.{IsPlain, command_of, statement_of}
 use Rattle.sql_base.specs.Schema.{realm, realm_text, no_schema, schema}
+use Rattle.sqlite_typing.specs.Types.{accepts_program}
 use Rattle.sql_base.proofs.QueryLemmas.{one_query, all_query}
+use Rattle.sql_base.proofs.RefusalLemmas.{IsWhole}
 use Rattle.sql_accounts.proofs.NumberLemmas.{rowid_test}
 
 abbrev pub put_text : List ℕ
@@ -92,3 +94,10 @@ drop_plain = (refl, refl)
 pub load_plain : IsPlain (understood schema load_text)
 unfolding understood everything
 load_plain = (refl, refl)
+
+pub load_whole : IsWhole load_text (understood schema load_text)
+unfolding understood everything
+load_whole = (refl, refl)
+
+pub load_accepts : accepts_program schema [] (all_query 0 (col 1 0) load_terms) [] ≡ true
+load_accepts = refl

@@ -1,5 +1,5 @@
 -- What the texts on secrets do.
-use Rattle.std.proofs.Common.{◌≡◌, ℕ, ℤ, Bool, true, false, List, [], ◌∷◌, ◌&&◌, ◌||◌, map, Ok, Result, OnOk, None, Some, refl, sym, ap, subst, ◌∙◌}
+use Rattle.std.proofs.Common.{◌≡◌, ◌⊎◌, ℕ, ℤ, Bool, true, false, List, [], ◌∷◌, ◌&&◌, ◌||◌, map, Ok, Result, OnOk, None, Some, refl, sym, ap, subst, ◌∙◌}
 use Rattle.std.specs.Ordering.{is_eq, int_cmp}
 use Rattle.std.proofs.lemmas.Cmp.{int_cmp_total}
 use Rattle.sqlite.specs.declared.types.Value.TheVariants.{Null, Int, Text, Blob}
@@ -18,7 +18,7 @@ use Rattle.sqlite_rules.proofs.TableLemmas.{int_is}
 use Rattle.sqlite.specs.declared.error.Error.{Error}
 use Rattle.sqlite.specs.Does.{Does}
 use Rattle.sqlite.specs.Listing.{understood}
-use Rattle.sqlite.specs.State.{State, mode_of, ExecutesInside, Shown, IsUnchanged}
+use Rattle.sqlite.specs.State.{State, mode_of, ExecutesInside, Shown, IsUnchanged, FailsToQuery, IsTooLate}
 use Rattle.sqlite.proofs.Callers.{statement_of, runs_as}
 use Rattle.keeper_rows.specs.declared.rows.SecretRow.{SecretRow}
 use Rattle.keeper_rows.specs.declared.change.Row.TheVariants as rows
@@ -28,9 +28,12 @@ use Rattle.keeper_rows.specs.Applied.{secret_key}
 use Rattle.keeper_rows.specs.Applied as applying
 use Rattle.sqlite.specs.Term.{col}
 use Rattle.sql_base.specs.Schema.{secret, secret_text, schema_2, schema_3, schema}
-use Rattle.sql_base.specs.Steps.{IsBegun, IsMade, AreListed}
+use Rattle.sql_base.specs.Steps.{IsBegun, IsMade, AreListed, IsRefused}
 use Rattle.sql_base.proofs.CreateLemmas.{creates}
 use Rattle.sql_base.proofs.ListingLemmas.{lists}
+use Rattle.sql_base.proofs.RefusalLemmas.{refused}
+use Rattle.sql_base.specs.Faults.{fault_of}
+use Rattle.sql_base.specs.declared.fault.Fault.TheVariants.{Failed}
 use Rattle.sql_accounts.specs.Shown.{secret_shown}
 use Rattle.sql_base.specs.Told.{secret_of, by_key, tables_in}
 use Rattle.sql_base.specs.Ready.{AreNumbered, AreKept, IsReady, Changes}
@@ -38,7 +41,7 @@ use Rattle.sql_accounts.proofs.NumberLemmas.{tests_number, numbered_put, numbere
 use Rattle.sql_accounts.proofs.TableLemmas.{IsKeyed, told_without, told_new}
 use Rattle.sql_accounts.proofs.AgreeLemmas.{Agree, told_agree, kept_agree}
 use Rattle.sql_accounts.proofs.WriteLemmas.{IsOwn, IsUpsert, Leaves, puts, drops, either}
-use Rattle.sql_accounts.proofs.SecretTexts.{secret_table, put_text, drop_text, put_terms, put_test, put_wanted, put_command, drop_command, put_is, drop_is, put_plain, drop_plain, load_text, load_is, load_plain, create_is, create_plain, create_lacks}
+use Rattle.sql_accounts.proofs.SecretTexts.{secret_table, put_text, drop_text, put_terms, put_test, put_wanted, put_command, drop_command, put_is, drop_is, put_plain, drop_plain, load_text, load_is, load_plain, load_whole, load_accepts, create_is, create_plain, create_lacks}
 
 -- a row as the table keeps it, and as the text's parameters give it
 abbrev pub stored : SecretRow → Row
@@ -143,3 +146,7 @@ create_makes = creates schema_2 secret secret_text create_is create_plain create
 
 pub select_lists : (old new : State) (rows : List Row) → old.now.schema ≡ schema → Shown load_text [] old new rows → AreListed secret_shown (old.now.trees 3) rows × IsUnchanged old new
 select_lists = lists 3 (col 1 0) (col 1 2 ∷ col 1 3 ∷ col 1 4 ∷ col 1 5 ∷ []) load_text _ load_is load_plain (λ db. refl)
+
+pub select_refused : (old new : State) (e : Error) → IsBegun schema old → fault_of e ≡ Failed → FailsToQuery load_text [] old new e ⊎ IsTooLate load_text [] old new e → IsRefused old new
+select_refused old new e begun failed =
+    refused 3 (col 1 0) (col 1 2 ∷ col 1 3 ∷ col 1 4 ∷ col 1 5 ∷ []) load_text _ load_is.0 load_plain load_whole load_accepts old new e begun.schema_is failed load_is.1 begun

@@ -1,14 +1,15 @@
-ghost use Rattle.std.specs.Prelude.{◌≡◌, ◌⊎◌, IfOk, OnOk, OnErr};
+ghost use Rattle.std.specs.Prelude.{◌≡◌, ◌⊎◌, Err, IfOk, OnOk, OnErr};
 ghost use Rattle.keeper_rows.specs.Applied.{put_row, drop_row};
 ghost use Rattle.keeper_rows.specs.declared.change.Row.TheVariants as rows;
 ghost use Rattle.keeper_rows.specs.declared.change.RowKey.TheVariants as keys;
 ghost use Rattle.sqlite.specs.Held.{state};
 ghost use Rattle.sqlite.specs.State.{HasCleanDisk, IsUnchanged, IsRolledBack, Survives};
 ghost use Rattle.sql_base.specs.Schema.{schema_5, schema};
-ghost use Rattle.sql_base.specs.Steps.{IsBegun, IsMade, AreListed};
+ghost use Rattle.sql_base.specs.Steps.{IsBegun, IsMade, IsRefused, AreListed};
 ghost use Rattle.sql_base.specs.Ready.{IsReady, Changes};
 ghost use Rattle.sql_base.specs.Told.{tables_in};
 ghost use Rattle.sql_accounts.specs.Shown.{mark_shown};
+ghost use Rattle.sql_base.specs.declared.fault.Fault.TheVariants as faults;
 
 use keeper_rows::MarkRow;
 use sql_base::Fault;
@@ -40,6 +41,8 @@ pub fn select_marks<S: Alter>(tx: &mut Transaction<'_, S>) -> Result<Vec<Row>, F
         AreListed mark_shown ((state S.Store tx.old.conn.now).now.trees 9) rows.items) }
     ensures same { HasCleanDisk (state S.Store tx.new.conn.now) → OnOk result
         (IsUnchanged (state S.Store tx.old.conn.now) (state S.Store tx.new.conn.now)) }
+    ensures cause { HasCleanDisk (state S.Store tx.new.conn.now) → result ≡ Err faults.Failed
+        → IsRefused (state S.Store tx.old.conn.now) (state S.Store tx.new.conn.now) }
     ensures survives { Survives (state S.Store tx.old.conn.now) (state S.Store tx.new.conn.now) (λ _. ⊥) }
 {
     Ok(tx.query_all(

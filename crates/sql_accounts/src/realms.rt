@@ -1,17 +1,18 @@
-ghost use Rattle.std.specs.Prelude.{◌≡◌, ◌⊎◌, IfOk, OnOk, OnErr};
+ghost use Rattle.std.specs.Prelude.{◌≡◌, ◌⊎◌, Err, IfOk, OnOk, OnErr};
 ghost use Rattle.keeper_rows.specs.Applied.{put_row, drop_row};
 ghost use Rattle.keeper_rows.specs.declared.change.Row.TheVariants as rows;
 ghost use Rattle.keeper_rows.specs.declared.change.RowKey.TheVariants as keys;
 ghost use Rattle.sqlite.specs.Held.{state};
 ghost use Rattle.sqlite.specs.State.{HasCleanDisk, IsUnchanged, IsRolledBack, Survives};
 ghost use Rattle.sql_base.specs.Schema.{no_schema, schema_1, schema};
-ghost use Rattle.sql_base.specs.Steps.{IsBegun, IsMade, AreListed};
+ghost use Rattle.sql_base.specs.Steps.{IsBegun, IsMade, IsRefused, AreListed};
 ghost use Rattle.sql_base.specs.Ready.{IsReady, Changes};
 ghost use Rattle.sql_base.specs.Told.{tables_in};
 ghost use Rattle.sql_accounts.specs.Shown.{realm_shown};
 ghost use Rattle.std.specs.Prelude.{ℕ, pos, Ok};
 ghost use Rattle.realm_data.specs.declared.realm_parts.RealmParts.{RealmParts};
 ghost use Rattle.realm_file.specs.RealmFile.{realm_read};
+ghost use Rattle.sql_base.specs.declared.fault.Fault.TheVariants as faults;
 
 use sql_base::Fault;
 use sqlite::{Alter, Row, Transaction, params};
@@ -42,6 +43,8 @@ pub fn select_realms<S: Alter>(tx: &mut Transaction<'_, S>) -> Result<Vec<Row>, 
         AreListed realm_shown ((state S.Store tx.old.conn.now).now.trees 0) rows.items) }
     ensures same { HasCleanDisk (state S.Store tx.new.conn.now) → OnOk result
         (IsUnchanged (state S.Store tx.old.conn.now) (state S.Store tx.new.conn.now)) }
+    ensures cause { HasCleanDisk (state S.Store tx.new.conn.now) → result ≡ Err faults.Failed
+        → IsRefused (state S.Store tx.old.conn.now) (state S.Store tx.new.conn.now) }
     ensures survives { Survives (state S.Store tx.old.conn.now) (state S.Store tx.new.conn.now) (λ _. ⊥) }
 {
     Ok(tx.query_all("SELECT version, text FROM realm ORDER BY version", &[])?)

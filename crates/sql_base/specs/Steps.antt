@@ -1,5 +1,6 @@
 -- What making a table does, and what a query of all its rows answers.
-use Rattle.std.specs.Prelude.{◌≡◌, List, [], map, IsPermutation, IsSortedByKey, IsTrue}
+use Rattle.std.specs.Prelude.{◌≡◌, ◌⊎◌, false, List, [], map, IsPermutation, IsSome, IsSortedByKey, IsTrue}
+use Rattle.login_base.specs.Outside.{Rose}
 use Rattle.sqlite.specs.Order.{Row, column, value_cmp}
 use Rattle.sqlite.specs.Schema.{Schema}
 use Rattle.sqlite.specs.Change.{KeepsRows, next_tree}
@@ -24,3 +25,7 @@ pub record IsMade (before after : Schema) (old new : State) : Type 0 where
 pub record AreListed (shown : Row → Row) (rows answer : List Row) : Type 0 where
   pub same : IsPermutation (map shown rows) answer
   pub sorted : IsSortedByKey (λ r. column r 0) value_cmp answer
+
+-- why a query of all rows is refused, but for want of memory: the disk failed, the connection was shut before, or it came to a limit on steps
+abbrev pub IsRefused : State → State → Type 0
+IsRefused old new = Rose old.faults new.faults ⊎ ((old.is_open ≡ false) ⊎ IsSome old.step_limit)

@@ -4,3 +4,5 @@ pub mod NumberLoads
 pub mod Rowids
 pub mod RealmLoads
 pub mod MarkLoads
+pub mod Causes
+pub mod Chains

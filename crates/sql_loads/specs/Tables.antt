@@ -9,7 +9,7 @@ use Rattle.sql_loads.specs.declared.marks.Marks.{Marks}
 use Rattle.sql_loads.specs.declared.realms.Realms.{Realms}
 use Rattle.sql_loads.specs.declared.tables.Users.{Users}
 use Rattle.sql_loads.specs.declared.tables.Uses.{Uses}
-use Rattle.sql_loads.specs.Loads.{AreSessions, AreTokens, by_rowid, first_failing, has_mark_key, HasMarkKey, tells_realm}
+use Rattle.sql_loads.specs.Loads.{AreSessions, AreTokens, by_rowid, first_failing, has_mark_key, HasMarkKey, tells_realm, RealmsFit, AccountsFit, SecretsFit, SessionsFit, TokensFit, MarksFit}
 
 -- the tables, with realms and marks in the order of their rowids
 abbrev pub tables_stored : Trees → Tables
@@ -42,3 +42,18 @@ pub record AreUses (db : Trees) (uses : Uses) : Type 0 where
   pub tokens : uses.tokens ≡ (tables_in db).tokens
   pub tokens_kept : AreTokens (db 7)
   pub marks : AreMarks db uses.marks
+
+pub record UsersFit (db : Trees) : Type 0 where
+  pub realms : RealmsFit (db 0)
+  pub accounts : AccountsFit (db 1)
+  pub secrets : SecretsFit (db 3)
+
+pub record UsesFit (db : Trees) : Type 0 where
+  pub sessions : SessionsFit (db 5)
+  pub tokens : TokensFit (db 7)
+  pub marks : MarksFit (db 9)
+
+-- the rows of all tables can be loaded
+pub record TablesFit (db : Trees) : Type 0 where
+  pub users : UsersFit db
+  pub uses : UsesFit db

@@ -1,10 +1,12 @@
-ghost use Rattle.std.specs.Prelude.{◌≡◌, IfOk, OnOk};
+ghost use Rattle.std.specs.Prelude.{◌≡◌, ◌⊎◌, IfOk, OnOk, Err};
 ghost use Rattle.sqlite.specs.Held.{state};
 ghost use Rattle.sqlite.specs.State.{HasCleanDisk, IsUnchanged, Survives};
 ghost use Rattle.sql_base.specs.Told.{tables_in};
+ghost use Rattle.sql_base.specs.declared.fault.Fault.TheVariants as faults;
 ghost use Rattle.sql_base.specs.Schema.{schema};
-ghost use Rattle.sql_base.specs.Steps.{IsBegun};
+ghost use Rattle.sql_base.specs.Steps.{IsBegun, IsRefused};
 ghost use Rattle.sql_base.specs.Ready.{AreNumbered};
+ghost use Rattle.sql_loads.specs.Loads.{AccountsFit};
 
 use crate::reading::{Shown, number_at, read_rising, text_at};
 use keeper_rows::AccountRow;
@@ -50,6 +52,9 @@ pub fn load_accounts<S: Alter>(
         (AreNumbered ((state S.Store tx.old.conn.now).now.trees 1)) }
     ensures same { HasCleanDisk (state S.Store tx.new.conn.now) → OnOk result
         (IsUnchanged (state S.Store tx.old.conn.now) (state S.Store tx.new.conn.now)) }
+    ensures cause { HasCleanDisk (state S.Store tx.new.conn.now) → result ≡ Err faults.Failed
+        → IsRefused (state S.Store tx.old.conn.now) (state S.Store tx.new.conn.now)
+        ⊎ ¬ AccountsFit ((state S.Store tx.old.conn.now).now.trees 1) }
     ensures survives { Survives (state S.Store tx.old.conn.now) (state S.Store tx.new.conn.now) (λ _. ⊥) }
 {
     let rows = select_accounts(tx)?;

@@ -1,12 +1,13 @@
-ghost use Rattle.std.specs.Prelude.{◌≡◌, ◌<◌, IfOk, IfSome, OnOk, Err, None, not, length, map};
+ghost use Rattle.std.specs.Prelude.{◌≡◌, ◌⊎◌, ◌<◌, IfOk, IfSome, OnOk, Err, None, not, length, map};
 ghost use Rattle.std.specs.List.{AllByRecursion, position};
 ghost use Rattle.sqlite.specs.Held.{state};
 ghost use Rattle.sqlite.specs.State.{HasCleanDisk, IsUnchanged, Survives};
 ghost use Rattle.sql_base.specs.Ready.{AreNumbered};
+ghost use Rattle.sql_base.specs.declared.fault.Fault.TheVariants as faults;
 ghost use Rattle.sql_base.specs.Schema.{schema};
-ghost use Rattle.sql_base.specs.Steps.{IsBegun};
+ghost use Rattle.sql_base.specs.Steps.{IsBegun, IsRefused};
 ghost use Rattle.sql_base.specs.Told.{mark_of, tables_in};
-ghost use Rattle.sql_loads.specs.Loads.{by_rowid, first_failing, has_mark_key, HasMarkKey};
+ghost use Rattle.sql_loads.specs.Loads.{by_rowid, first_failing, has_mark_key, HasMarkKey, MarksFit};
 ghost use Rattle.sql_loads.specs.Values.{has_key_one, mark_row};
 
 use crate::reading::{Shown, number_at, number_of, read_rising};
@@ -80,6 +81,9 @@ pub fn load_marks<S: Alter>(alloc: Global, tx: &mut Transaction<'_, S>) -> Resul
         → AllByRecursion HasMarkKey ((state S.Store tx.old.conn.now).now.trees 9)) }
     ensures same { HasCleanDisk (state S.Store tx.new.conn.now) → OnOk result
         (IsUnchanged (state S.Store tx.old.conn.now) (state S.Store tx.new.conn.now)) }
+    ensures cause { HasCleanDisk (state S.Store tx.new.conn.now) → result ≡ Err faults.Failed
+        → IsRefused (state S.Store tx.old.conn.now) (state S.Store tx.new.conn.now)
+        ⊎ ¬ MarksFit ((state S.Store tx.old.conn.now).now.trees 9) }
     ensures survives { Survives (state S.Store tx.old.conn.now) (state S.Store tx.new.conn.now) (λ _. ⊥) }
 {
     let rows = select_marks(tx)?;

@@ -1,4 +1,4 @@
-ghost use Rattle.std.specs.Prelude.{◌≡◌, ◌<◌, IfOk, IfSome, OnOk, Err, None, not, length, map, unwrap_or};
+ghost use Rattle.std.specs.Prelude.{◌≡◌, ◌⊎◌, ◌<◌, IfOk, IfSome, OnOk, Err, None, not, length, map, unwrap_or};
 ghost use Rattle.std.specs.List.{AllByRecursion, position};
 ghost use Rattle.sqlite.specs.Held.{state};
 ghost use Rattle.sqlite.specs.Order.{column};
@@ -7,11 +7,11 @@ ghost use Rattle.realm_data.specs.RealmBuiltin.{builtin_realm};
 ghost use Rattle.realm_file.specs.RealmFile.{realm_read};
 ghost use Rattle.sql_base.specs.Ready.{AreNumbered, IsNatural};
 ghost use Rattle.sql_base.specs.Schema.{schema};
-ghost use Rattle.sql_base.specs.Steps.{IsBegun};
+ghost use Rattle.sql_base.specs.Steps.{IsBegun, IsRefused};
 ghost use Rattle.sql_base.specs.Told.{nat_of, realm_of, tables_in, text_at};
 ghost use Rattle.sql_base.specs.declared.fault.Fault.TheVariants as faults;
 ghost use Rattle.sql_loads.specs.Fits.{HoldsAnyText};
-ghost use Rattle.sql_loads.specs.Loads.{by_rowid, first_failing, tells_realm};
+ghost use Rattle.sql_loads.specs.Loads.{by_rowid, first_failing, tells_realm, RealmsFit};
 ghost use Rattle.sql_loads.specs.Values.{if_read, is_told, realm_row};
 
 use crate::reading::{Shown, number_at, number_of, read_rising};
@@ -146,6 +146,9 @@ pub fn load_realms<S: Alter>(alloc: Global, tx: &mut Transaction<'_, S>) -> Resu
         → AllByRecursion IsNatural ((state S.Store tx.old.conn.now).now.trees 0)) }
     ensures same { HasCleanDisk (state S.Store tx.new.conn.now) → OnOk result
         (IsUnchanged (state S.Store tx.old.conn.now) (state S.Store tx.new.conn.now)) }
+    ensures cause { HasCleanDisk (state S.Store tx.new.conn.now) → result ≡ Err faults.Failed
+        → IsRefused (state S.Store tx.old.conn.now) (state S.Store tx.new.conn.now)
+        ⊎ ¬ RealmsFit ((state S.Store tx.old.conn.now).now.trees 0) }
     ensures survives { Survives (state S.Store tx.old.conn.now) (state S.Store tx.new.conn.now) (λ _. ⊥) }
 {
     let rows = select_realms(tx)?;

@@ -1,10 +1,11 @@
-ghost use Rattle.std.specs.Prelude.{◌≡◌, IfOk, OnOk};
+ghost use Rattle.std.specs.Prelude.{◌≡◌, ◌⊎◌, IfOk, OnOk, Err};
 ghost use Rattle.sqlite.specs.Held.{state};
 ghost use Rattle.sqlite.specs.State.{HasCleanDisk, IsUnchanged, Survives};
 ghost use Rattle.sql_base.specs.Told.{tables_in};
+ghost use Rattle.sql_base.specs.declared.fault.Fault.TheVariants as faults;
 ghost use Rattle.sql_base.specs.Schema.{schema};
-ghost use Rattle.sql_base.specs.Steps.{IsBegun};
-ghost use Rattle.sql_loads.specs.Loads.{AreSessions};
+ghost use Rattle.sql_base.specs.Steps.{IsBegun, IsRefused};
+ghost use Rattle.sql_loads.specs.Loads.{AreSessions, SessionsFit};
 
 use crate::reading::{Shown, check_rowids, number_at, read_rising, text_at};
 use keeper_rows::SessionRow;
@@ -48,6 +49,9 @@ pub fn load_sessions<S: Alter>(
         (AreSessions ((state S.Store tx.old.conn.now).now.trees 5)) }
     ensures same { HasCleanDisk (state S.Store tx.new.conn.now) → OnOk result
         (IsUnchanged (state S.Store tx.old.conn.now) (state S.Store tx.new.conn.now)) }
+    ensures cause { HasCleanDisk (state S.Store tx.new.conn.now) → result ≡ Err faults.Failed
+        → IsRefused (state S.Store tx.old.conn.now) (state S.Store tx.new.conn.now)
+        ⊎ ¬ SessionsFit ((state S.Store tx.old.conn.now).now.trees 5) }
     ensures survives { Survives (state S.Store tx.old.conn.now) (state S.Store tx.new.conn.now) (λ _. ⊥) }
 {
     let rows = select_sessions(tx)?;

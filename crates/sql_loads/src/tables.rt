@@ -1,12 +1,13 @@
-ghost use Rattle.std.specs.Prelude.{◌≡◌, IfOk, None, OnOk};
+ghost use Rattle.std.specs.Prelude.{◌≡◌, ◌⊎◌, Err, IfOk, None, OnOk};
 ghost use Rattle.sqlite.specs.Held.{state};
 ghost use Rattle.sqlite.specs.State.{HasCleanDisk, IsUnchanged, Survives};
 ghost use Rattle.sql_base.specs.Ready.{AreKept};
+ghost use Rattle.sql_base.specs.declared.fault.Fault.TheVariants as faults;
 ghost use Rattle.sql_base.specs.Schema.{schema};
-ghost use Rattle.sql_base.specs.Steps.{IsBegun};
+ghost use Rattle.sql_base.specs.Steps.{IsBegun, IsRefused};
 ghost use Rattle.sql_base.specs.Told.{tables_in};
 ghost use Rattle.sql_loads.specs.Loads.{by_rowid, first_failing, has_mark_key, tells_realm};
-ghost use Rattle.sql_loads.specs.Tables.{AreUsers, AreUses, tables_stored};
+ghost use Rattle.sql_loads.specs.Tables.{AreUsers, AreUses, TablesFit, UsersFit, UsesFit, tables_stored};
 
 use crate::accounts::load_accounts;
 use crate::marks::{Marks, load_marks};
@@ -53,6 +54,9 @@ fn load_users<S: Alter>(alloc: Global, tx: &mut Transaction<'_, S>) -> Result<Us
         (AreUsers (state S.Store tx.old.conn.now).now.trees) }
     ensures same { HasCleanDisk (state S.Store tx.new.conn.now) → OnOk result
         (IsUnchanged (state S.Store tx.old.conn.now) (state S.Store tx.new.conn.now)) }
+    ensures cause { HasCleanDisk (state S.Store tx.new.conn.now) → result ≡ Err faults.Failed
+        → IsRefused (state S.Store tx.old.conn.now) (state S.Store tx.new.conn.now)
+        ⊎ ¬ UsersFit (state S.Store tx.old.conn.now).now.trees }
     ensures survives { Survives (state S.Store tx.old.conn.now) (state S.Store tx.new.conn.now) (λ _. ⊥) }
 {
     let realms = load_realms(alloc, tx)?;
@@ -72,6 +76,9 @@ fn load_uses<S: Alter>(alloc: Global, tx: &mut Transaction<'_, S>) -> Result<Use
         (AreUses (state S.Store tx.old.conn.now).now.trees) }
     ensures same { HasCleanDisk (state S.Store tx.new.conn.now) → OnOk result
         (IsUnchanged (state S.Store tx.old.conn.now) (state S.Store tx.new.conn.now)) }
+    ensures cause { HasCleanDisk (state S.Store tx.new.conn.now) → result ≡ Err faults.Failed
+        → IsRefused (state S.Store tx.old.conn.now) (state S.Store tx.new.conn.now)
+        ⊎ ¬ UsesFit (state S.Store tx.old.conn.now).now.trees }
     ensures survives { Survives (state S.Store tx.old.conn.now) (state S.Store tx.new.conn.now) (λ _. ⊥) }
 {
     let sessions = load_sessions(alloc, tx)?;
@@ -141,6 +148,9 @@ pub fn load_tables<S: Alter>(alloc: Global, tx: &mut Transaction<'_, S>) -> Resu
         → AreKept (state S.Store tx.old.conn.now).now.trees) }
     ensures same { HasCleanDisk (state S.Store tx.new.conn.now) → OnOk result
         (IsUnchanged (state S.Store tx.old.conn.now) (state S.Store tx.new.conn.now)) }
+    ensures cause { HasCleanDisk (state S.Store tx.new.conn.now) → result ≡ Err faults.Failed
+        → IsRefused (state S.Store tx.old.conn.now) (state S.Store tx.new.conn.now)
+        ⊎ ¬ TablesFit (state S.Store tx.old.conn.now).now.trees }
     ensures survives { Survives (state S.Store tx.old.conn.now) (state S.Store tx.new.conn.now) (λ _. ⊥) }
 {
     let users = load_users(alloc, tx)?;

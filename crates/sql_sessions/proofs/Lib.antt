@@ -1,7 +1,6 @@
 pub mod Apart
 pub mod Deletes
 pub mod Keys
-pub mod Lists
 pub mod Members
 pub mod SessionLemmas
 pub mod Tells

@@ -1,5 +1,5 @@
 -- What the texts on sessions do.
-use Rattle.std.proofs.Common.{◌≡◌, ℕ, List, [], ◌∷◌, map, drop, codes, Ok, Err, Result, OnOk, refl, subst, arith}
+use Rattle.std.proofs.Common.{◌≡◌, ◌⊎◌, ℕ, List, [], ◌∷◌, map, drop, codes, Ok, Err, Result, OnOk, refl, subst, arith}
 use Rattle.std.specs.List.{AllByRecursion}
 use Rattle.std.proofs.lemmas.Bool.{and_parts}
 use Rattle.keeper_rows.specs.Applied.{text_cmp, session_key, put_row, drop_row}
@@ -12,7 +12,7 @@ use Rattle.sqlite.specs.Collation.TheVariants.{Binary}
 use Rattle.sqlite.specs.Effect.{Database, IsDatabase}
 use Rattle.sqlite.specs.Ops.{unary}
 use Rattle.sqlite.specs.Order.{Row, value_cmp}
-use Rattle.sqlite.specs.State.{State, Shown, IsUnchanged, ExecutesInside}
+use Rattle.sqlite.specs.State.{State, Shown, IsUnchanged, ExecutesInside, FailsToQuery, IsTooLate}
 use Rattle.sqlite.specs.Table.{Table}
 use Rattle.sqlite.specs.Term.{col}
 use Rattle.sqlite.specs.Tree.{Trees}
@@ -25,14 +25,17 @@ use Rattle.sql_base.specs.Schema.{schema, schema_3, schema_4, session, session_t
 use Rattle.sql_base.specs.Told.{by_key, session_of, tables_in}
 use Rattle.sql_base.specs.Ready.{AreApart, AreNumbered, AreKept, IsReady, Changes}
 use Rattle.sql_sessions.specs.Texts.{put_session_text, drop_session_text, load_session_text}
-use Rattle.sql_base.specs.Steps.{IsBegun, IsMade, AreListed}
+use Rattle.sql_base.specs.Steps.{IsBegun, IsMade, IsRefused, AreListed}
 use Rattle.sql_sessions.specs.Values.{session_values, session_shown}
 use Rattle.sql_base.proofs.CreateLemmas.{creates}
-use Rattle.sql_sessions.proofs.Lists.{lists}
+use Rattle.sql_base.proofs.ListingLemmas.{lists}
+use Rattle.sql_base.proofs.RefusalLemmas.{refused}
+use Rattle.sql_base.specs.Faults.{fault_of}
+use Rattle.sql_base.specs.declared.fault.Fault.TheVariants.{Failed}
 use Rattle.sql_sessions.proofs.Keys.{text_key, keys_apart, told_apart}
 use Rattle.sql_sessions.proofs.Members.{key}
 use Rattle.sql_sessions.proofs.Tells.{tells_put, tells_drop}
-use Rattle.sql_sessions.proofs.Texts.{create_session_is, create_session_plain, load_session_is, load_session_plain, put_session_is, put_session_plain, drop_session_is, drop_session_plain}
+use Rattle.sql_sessions.proofs.Texts.{create_session_is, create_session_plain, load_session_is, load_session_plain, load_session_whole, load_session_accepts, put_session_is, put_session_plain, drop_session_is, drop_session_plain}
 use Rattle.sql_sessions.proofs.Upserts.{IsText, IsUpsert, KeepsOthers, either, met}
 use Rattle.sql_sessions.proofs.Writes.{puts, drops}
 
@@ -151,4 +154,8 @@ pub create_makes : (old new : State) (r : Result ℕ Error) → IsBegun schema_3
 create_makes = creates schema_3 session session_text create_session_is create_session_plain refl
 
 pub select_lists : (old new : State) (rows : List Row) → old.now.schema ≡ schema → Shown load_session_text [] old new rows → AreListed session_shown (old.now.trees 5) rows × IsUnchanged old new
-select_lists = lists 5 (col 1 2 ∷ col 1 3 ∷ col 1 4 ∷ col 1 5 ∷ col 1 6 ∷ col 1 7 ∷ col 1 0 ∷ []) load_session_text _ load_session_is load_session_plain (λ db. refl)
+select_lists = lists 5 (col 1 1) (col 1 2 ∷ col 1 3 ∷ col 1 4 ∷ col 1 5 ∷ col 1 6 ∷ col 1 7 ∷ col 1 0 ∷ []) load_session_text _ load_session_is load_session_plain (λ db. refl)
+
+pub select_refused : (old new : State) (e : Error) → IsBegun schema old → fault_of e ≡ Failed → FailsToQuery load_session_text [] old new e ⊎ IsTooLate load_session_text [] old new e → IsRefused old new
+select_refused old new e begun failed =
+    refused 5 (col 1 1) (col 1 2 ∷ col 1 3 ∷ col 1 4 ∷ col 1 5 ∷ col 1 6 ∷ col 1 7 ∷ col 1 0 ∷ []) load_session_text _ load_session_is.0 load_session_plain load_session_whole load_session_accepts old new e begun.schema_is failed load_session_is.1 begun

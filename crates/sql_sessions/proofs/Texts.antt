@@ -1,5 +1,5 @@
 -- What the texts mean.
-use Rattle.std.proofs.Common.{◌≡◌, Ok, refl, List, [], ◌∷◌, ℕ, Some, codes, false}
+use Rattle.std.proofs.Common.{◌≡◌, Ok, refl, List, [], ◌∷◌, ℕ, Some, codes, true, false}
 use Rattle.sqlite.specs.declared.types.Value.TheVariants.{Null}
 use Rattle.sqlite.specs.Term.{Term, lit, col, op2}
 use Rattle.sqlite_sql.specs.declared.ops.BinaryOp.TheVariants.{Compare}
@@ -17,7 +17,10 @@ use Rattle.sqlite_tied.specs.Compute.{everything}
 use Rattle.sqlite.proofs.Callers.{IsPlain, command_of, statement_of}
 use Rattle.sql_base.specs.Schema.{session_text, token_text, session, token, schema, schema_3, schema_4}
 use Rattle.sql_sessions.specs.Texts.{put_session_text, drop_session_text, load_session_text, put_token_text, drop_token_text, load_token_text}
+use Rattle.sqlite_typing.specs.Types.{accepts_program}
+use Rattle.sql_base.proofs.ListingLemmas.{load_of}
 use Rattle.sql_base.proofs.QueryLemmas.{one_query}
+use Rattle.sql_base.proofs.RefusalLemmas.{IsWhole}
 
 -- ---- any table whose key is the text in its first column
 
@@ -34,9 +37,6 @@ upserts_of tree place values = record { target = Some (1 ∷ []); update = Some 
 abbrev pub drop_of : ℕ → Program
 drop_of tree = record { lets = []; body = one_query tree (equals (col 1 1) (col 0 0)) (col 1 0 ∷ []) }
 
-abbrev pub load_of : ℕ → List Term → Program
-load_of tree values = record { lets = []; body = record (one_query tree [] values) { order = (col 1 1, record { collation = Binary; descending = false }) ∷ [] } }
-
 -- ---- sessions
 
 abbrev pub put_session_command : Command
@@ -49,7 +49,7 @@ drop_session_command = Delete 3 (drop_of 5)
 
 abbrev pub load_session_command : Command
 load_session_command =
-    Select (load_of 5 (col 1 1 ∷ col 1 2 ∷ col 1 3 ∷ col 1 4 ∷ col 1 5 ∷ col 1 6 ∷ col 1 7 ∷ col 1 0 ∷ []))
+    Select (load_of 5 (col 1 1) (col 1 2 ∷ col 1 3 ∷ col 1 4 ∷ col 1 5 ∷ col 1 6 ∷ col 1 7 ∷ col 1 0 ∷ []))
     (codes "id" ∷ codes "user" ∷ codes "opened" ∷ codes "seen" ∷ codes "idle" ∷ codes "max" ∷ codes "levels" ∷ codes "rowid" ∷ [])
 
 pub create_session_is : (command_of (understood schema_3 session_text) ≡ CreateTable) × (statement_of session_text (understood schema_3 session_text) ≡ session_text) × (table_defined_by session_text ≡ Ok session)
@@ -84,6 +84,13 @@ pub load_session_plain : IsPlain (understood schema load_session_text)
 unfolding understood everything
 load_session_plain = (refl, refl)
 
+pub load_session_whole : IsWhole load_session_text (understood schema load_session_text)
+unfolding understood everything
+load_session_whole = (refl, refl)
+
+pub load_session_accepts : accepts_program schema [] (load_of 5 (col 1 1) (col 1 2 ∷ col 1 3 ∷ col 1 4 ∷ col 1 5 ∷ col 1 6 ∷ col 1 7 ∷ col 1 0 ∷ [])).body [] ≡ true
+load_session_accepts = refl
+
 -- ---- tokens
 
 abbrev pub put_token_command : Command
@@ -96,7 +103,7 @@ drop_token_command = Delete 4 (drop_of 7)
 
 abbrev pub load_token_command : Command
 load_token_command =
-    Select (load_of 7 (col 1 1 ∷ col 1 2 ∷ col 1 3 ∷ col 1 4 ∷ col 1 5 ∷ col 1 0 ∷ []))
+    Select (load_of 7 (col 1 1) (col 1 2 ∷ col 1 3 ∷ col 1 4 ∷ col 1 5 ∷ col 1 0 ∷ []))
     (codes "key" ∷ codes "user" ∷ codes "kind" ∷ codes "expiry" ∷ codes "spent" ∷ codes "rowid" ∷ [])
 
 pub create_token_is : (command_of (understood schema_4 token_text) ≡ CreateTable) × (statement_of token_text (understood schema_4 token_text) ≡ token_text) × (table_defined_by token_text ≡ Ok token)
@@ -130,3 +137,10 @@ drop_token_plain = (refl, refl)
 pub load_token_plain : IsPlain (understood schema load_token_text)
 unfolding understood everything
 load_token_plain = (refl, refl)
+
+pub load_token_whole : IsWhole load_token_text (understood schema load_token_text)
+unfolding understood everything
+load_token_whole = (refl, refl)
+
+pub load_token_accepts : accepts_program schema [] (load_of 7 (col 1 1) (col 1 2 ∷ col 1 3 ∷ col 1 4 ∷ col 1 5 ∷ col 1 0 ∷ [])).body [] ≡ true
+load_token_accepts = refl

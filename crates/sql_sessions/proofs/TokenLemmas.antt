@@ -1,5 +1,5 @@
 -- What the texts on tokens do.
-use Rattle.std.proofs.Common.{◌≡◌, ℕ, List, [], ◌∷◌, map, drop, codes, Ok, Err, Result, OnOk, refl, subst, arith}
+use Rattle.std.proofs.Common.{◌≡◌, ◌⊎◌, ℕ, List, [], ◌∷◌, map, drop, codes, Ok, Err, Result, OnOk, refl, subst, arith}
 use Rattle.std.specs.List.{AllByRecursion}
 use Rattle.std.proofs.lemmas.Bool.{and_parts}
 use Rattle.keeper_rows.specs.Applied.{text_cmp, token_key, put_row, drop_row}
@@ -12,7 +12,7 @@ use Rattle.sqlite.specs.Collation.TheVariants.{Binary}
 use Rattle.sqlite.specs.Effect.{Database, IsDatabase}
 use Rattle.sqlite.specs.Ops.{unary}
 use Rattle.sqlite.specs.Order.{Row, value_cmp}
-use Rattle.sqlite.specs.State.{State, Shown, IsUnchanged, ExecutesInside}
+use Rattle.sqlite.specs.State.{State, Shown, IsUnchanged, ExecutesInside, FailsToQuery, IsTooLate}
 use Rattle.sqlite.specs.Table.{Table}
 use Rattle.sqlite.specs.Term.{col}
 use Rattle.sqlite.specs.Tree.{Trees}
@@ -25,14 +25,17 @@ use Rattle.sql_base.specs.Schema.{schema, schema_4, schema_5, token, token_text}
 use Rattle.sql_base.specs.Told.{by_key, token_of, tables_in}
 use Rattle.sql_base.specs.Ready.{AreApart, AreNumbered, AreKept, IsReady, Changes}
 use Rattle.sql_sessions.specs.Texts.{put_token_text, drop_token_text, load_token_text}
-use Rattle.sql_base.specs.Steps.{IsBegun, IsMade, AreListed}
+use Rattle.sql_base.specs.Steps.{IsBegun, IsMade, IsRefused, AreListed}
 use Rattle.sql_sessions.specs.Values.{token_values, token_shown}
 use Rattle.sql_base.proofs.CreateLemmas.{creates}
-use Rattle.sql_sessions.proofs.Lists.{lists}
+use Rattle.sql_base.proofs.ListingLemmas.{lists}
+use Rattle.sql_base.proofs.RefusalLemmas.{refused}
+use Rattle.sql_base.specs.Faults.{fault_of}
+use Rattle.sql_base.specs.declared.fault.Fault.TheVariants.{Failed}
 use Rattle.sql_sessions.proofs.Keys.{text_key, keys_apart, told_apart}
 use Rattle.sql_sessions.proofs.Members.{key}
 use Rattle.sql_sessions.proofs.Tells.{tells_put, tells_drop}
-use Rattle.sql_sessions.proofs.Texts.{create_token_is, create_token_plain, load_token_is, load_token_plain, put_token_is, put_token_plain, drop_token_is, drop_token_plain}
+use Rattle.sql_sessions.proofs.Texts.{create_token_is, create_token_plain, load_token_is, load_token_plain, load_token_whole, load_token_accepts, put_token_is, put_token_plain, drop_token_is, drop_token_plain}
 use Rattle.sql_sessions.proofs.Upserts.{IsText, IsUpsert, KeepsOthers, either, met}
 use Rattle.sql_sessions.proofs.Writes.{puts, drops}
 
@@ -151,4 +154,8 @@ pub create_makes : (old new : State) (r : Result ℕ Error) → IsBegun schema_4
 create_makes = creates schema_4 token token_text create_token_is create_token_plain refl
 
 pub select_lists : (old new : State) (rows : List Row) → old.now.schema ≡ schema → Shown load_token_text [] old new rows → AreListed token_shown (old.now.trees 7) rows × IsUnchanged old new
-select_lists = lists 7 (col 1 2 ∷ col 1 3 ∷ col 1 4 ∷ col 1 5 ∷ col 1 0 ∷ []) load_token_text _ load_token_is load_token_plain (λ db. refl)
+select_lists = lists 7 (col 1 1) (col 1 2 ∷ col 1 3 ∷ col 1 4 ∷ col 1 5 ∷ col 1 0 ∷ []) load_token_text _ load_token_is load_token_plain (λ db. refl)
+
+pub select_refused : (old new : State) (e : Error) → IsBegun schema old → fault_of e ≡ Failed → FailsToQuery load_token_text [] old new e ⊎ IsTooLate load_token_text [] old new e → IsRefused old new
+select_refused old new e begun failed =
+    refused 7 (col 1 1) (col 1 2 ∷ col 1 3 ∷ col 1 4 ∷ col 1 5 ∷ col 1 0 ∷ []) load_token_text _ load_token_is.0 load_token_plain load_token_whole load_token_accepts old new e begun.schema_is failed load_token_is.1 begun

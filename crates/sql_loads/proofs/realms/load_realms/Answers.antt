@@ -1,7 +1,9 @@
-use Rattle.std.proofs.Common.{◌∙◌, ◌+◌, sym, ap}
+use Rattle.std.proofs.Common.{◌∙◌, ◌+◌, sym, ap, ◌≡◌, inr, arith, Err}
 use Rattle.std.specs.Prelude.{option_map}
 use Rattle.sqlite.specs.Held.{state}
 use Rattle.sql_loads.proofs.RealmLoads.{realms_numbered, realms_rows, realms_untold, realms_told, realms_natural}
+use Rattle.sql_base.specs.declared.fault.Fault.TheVariants.{Failed}
+use Rattle.sql_loads.proofs.Causes.{realms_rise}
 use Rattle.sql_loads.proofs.realms.load_realms.Goals as goal
 
 pub returns-clause-rows : goal.returns-clause-rows
@@ -28,3 +30,9 @@ returns-clause-natural g c clean none =
     let untold = c.number_of-untold.ensures.value ∙ ap (option_map (λ at. at + 1)) (rw c.as_slice-2.ensures.items at c.first_untold.ensures.place)
     ∙ realms_untold rows c.in_ok-rows.rows.items c.in_ok-realms.realms (c.in_ok-rows.ensures.ok clean) read in
     realms_natural rows c.in_ok-rows.rows.items c.in_ok-realms.realms (c.in_ok-rows.ensures.ok clean) read (sym untold ∙ none)
+
+pub returns-in_err-realms-clause-cause : goal.returns-in_err-realms-clause-cause
+returns-in_err-realms-clause-cause g c clean failed = inr (λ well.
+    let all = realms_rise ((state g.S.Store c.args.tx.now.conn.now).now.trees 0) c.in_ok-rows.rows.items (c.in_ok-rows.ensures.ok clean) well in
+    let is : c.in_err-realms.field-0.0 ≡ Failed = grind (arith, failed, c.from_residual-in_err-realms.ensures) in
+    (rw c.as_slice.ensures.value at c.in_err-realms.ensures.cause) (ap Err is) all.0 all.1)
