@@ -113,7 +113,7 @@ fn batch(alloc: Global, steps: &[Step]) -> Result<Batch, Memory> {
 }
 
 /// How many rows each table has, a digit a table.
-fn counts(tables: &Tables) -> i64 {
+fn counts(tables: &Tables) -> usize {
     let lengths = [
         tables.realms.len(),
         tables.accounts.len(),
@@ -122,14 +122,13 @@ fn counts(tables: &Tables) -> i64 {
         tables.tokens.len(),
         tables.marks.len(),
     ];
-    lengths.iter().fold(
-        0i64,
-        |all, one| all.wrapping_mul(10).wrapping_add(*one as i64),
-    )
+    lengths
+        .iter()
+        .fold(0usize, |all, one| all.wrapping_mul(10).wrapping_add(*one))
 }
 
 /// What is loaded, as `counts` has it.
-fn loaded(keeper: &mut SqlKeeper<MemStore>) -> Result<i64, LoadFault> {
+fn loaded(keeper: &mut SqlKeeper<MemStore>) -> Result<usize, LoadFault> {
     match keeper.load() {
         Ok(tables) => Ok(counts(&tables)),
         Err(fault) => Err(fault),

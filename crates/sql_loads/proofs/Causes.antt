@@ -1,5 +1,5 @@
 -- Rows that can be loaded are read: they fit, and their keys rise.
-use Rattle.std.proofs.Common.{◌≡◌, ◌<◌, ℤ, true, false, List, [], ◌∷◌, map, length, Less, refl, sym, ap, ◌∙◌, arith}
+use Rattle.std.proofs.Common.{◌≡◌, ◌<◌, ℤ, true, false, List, map, length, refl, sym, ap, ◌∙◌, arith}
 use Rattle.std.specs.Ordering.{int_cmp, is_eq}
 use Rattle.std.specs.List.{AllByRecursion}
 use Rattle.std.proofs.lemmas.Cmp.{int_cmp_total, nat_list_cmp_total}

@@ -5,3 +5,4 @@ pub mod Rowids
 pub mod RealmLoads
 pub mod MarkLoads
 pub mod Causes
+pub mod Chains

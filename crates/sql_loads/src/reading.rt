@@ -93,7 +93,8 @@ fn read_rows<R: Shown>(alloc: Global, rows: &[Row]) -> Result<Sequence<R>, Fault
 
 fn read_numbers(alloc: Global, rows: &[Row], at: usize) -> Result<Sequence<i64>, Fault>
     ensures told { IfOk result (λ numbers. map Int numbers ≡ map (λ row. column row at) rows.now) }
-    ensures cause { result ≡ Err faults.Failed → ¬ AllByRecursion (λ row. (at < length row) × HoldsNumber (column row at)) rows.now }
+    ensures cause { result ≡ Err faults.Failed
+        → ¬ AllByRecursion (λ row. (at < length row) × HoldsNumber (column row at)) rows.now }
 {
     let mut numbers = Sequence::new(alloc);
     for row in rows {

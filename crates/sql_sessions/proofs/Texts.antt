@@ -37,7 +37,6 @@ upserts_of tree place values = record { target = Some (1 ∷ []); update = Some 
 abbrev pub drop_of : ℕ → Program
 drop_of tree = record { lets = []; body = one_query tree (equals (col 1 1) (col 0 0)) (col 1 0 ∷ []) }
 
-
 -- ---- sessions
 
 abbrev pub put_session_command : Command
