@@ -1,5 +1,6 @@
 pub mod ChangeLemmas
 pub mod DueLemmas
+pub mod EmptyLemmas
 pub mod KeptLemmas
 pub mod RealmLemmas
 pub mod SecretLemmas

@@ -9,4 +9,4 @@ mod laws;
 mod tests;
 
 pub use batches::batch;
-pub use laws::{batch_is_empty_where_nothing_is_stored, tables_stand_on};
+pub use laws::{batch_is_empty_where_nothing_is_stored, empty_tables_stand, tables_stand_on};
