@@ -67,7 +67,8 @@ fn load_known<S: Alter>(
     known: bool,
 ) -> Result<Loaded, Fault>
     requires ours { KnowsOurs S.Store known opened.old }
-    ensures ours { IfOk result (λ loaded. KnowsOurs S.Store (is_whole loaded.untold_realm loaded.unkeyed_mark) opened.new) }
+    ensures ours { IfOk result (λ loaded. KnowsOurs S.Store
+        (is_whole loaded.untold_realm loaded.unkeyed_mark) opened.new) }
     ensures told { IfOk result (λ loaded. IfSome
         (told S.Store (is_whole loaded.untold_realm loaded.unkeyed_mark) opened.new) (λ now. now ≡ loaded.tables)) }
     ensures stays { IfOk result (λ loaded. Stays (told S.Store known opened.old)
